@@ -1,0 +1,18 @@
+//! Names, texts and lists, C types, and the shelf and sink through which the desk meets the outside.
+#![tactic(auto)]
+
+mod calls;
+mod ctype;
+mod list;
+mod name;
+mod shelf;
+mod sink;
+mod text;
+
+pub use ctype::{CType, Field, copy_fields};
+pub use list::List;
+pub use name::{Name, NameFault, is_name, is_word_byte};
+pub use shelf::{FileShelf, MemShelf, Shelf, ShelfFault};
+pub use sink::{MemSink, OutSink, Sink, SinkFault};
+pub use sqlite_items::Boxed;
+pub use text::Text;

@@ -1,0 +1,11 @@
+//! Terms, assertions, specifications and proof scripts, after Verifiable C: an assertion has pure facts, values of
+//! temporaries and a separating conjunction.
+#![tactic(auto)]
+
+mod assertion;
+mod step;
+mod term;
+
+pub use assertion::{Assertion, Item, Label, PredDef, Prop, Rel, Spec};
+pub use step::{CertLine, Certificate, Step, StepNode};
+pub use term::{Op, Sort, Term, copy_terms};
