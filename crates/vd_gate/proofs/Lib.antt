@@ -1,6 +1,5 @@
 pub mod Lists
 pub mod Entries
-pub mod StoryLaws
 pub mod Frames
 pub mod TicketSteps
 pub mod SeatSteps

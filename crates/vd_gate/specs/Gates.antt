@@ -20,3 +20,10 @@ module _ {S E : Type 0} where
     pub free : (p : GatePass S E) → Contains passes p → IsPassOf g p × IsFree p
     pub first : (p : GatePass S E) × Contains passes p × (number_of p ≡ 0)
     pub lists : (p : GatePass S E) → Contains passes p → number_of p ≡ 0 → (n : ℕ) → n < made_of p → HasListFor passes n
+
+  -- the pass at place i, where as many passes as were made stand in the order of their numbers
+  pub record IsSeat (g : Gate S E) (count i : ℕ) (p : GatePass S E) : Type 0 where
+    pub of_gate : IsPassOf g p
+    pub free : IsFree p
+    pub number : number_of p ≡ i
+    pub made : i ≡ 0 → made_of p ≡ count

@@ -10,6 +10,8 @@ mod turns;
 mod passes;
 mod view;
 mod steps;
+#[cfg(test)]
+mod tests;
 
 pub use gate::{Gate, Many};
 pub use pass::{GatePass, Turn};
