@@ -1,27 +1,18 @@
 -- The rule holds of a new table, and what it tells of the last one.
-use Rattle.std.proofs.Common.{◌≡◌, ◌≢◌, ℕ, ◌+◌, ◌-◌, ◌%◌, ◌<◌, ◌≤◌, eqb, ◌⊎◌, Bool, true, false, List, [], ◌∷◌, ◌++◌, length, get_or, set, Option, Some, None, refl, ap, sym, ◌∙◌, subst, ⊎_elim, arith, le_refl, length-append, length-set, eq-eqb, ne_eqb}
-use Rattle.std.specs.Prelude.{is_some, if◌then◌else◌}
+use Rattle.std.proofs.Common.{◌≡◌, ℕ, ◌+◌, ◌<◌, ◌≤◌, Bool, true, false, List, [], ◌∷◌, length, Option, Some, refl, ap, sym, ◌∙◌, ⊎_elim, arith}
+use Rattle.std.specs.Prelude.{if◌then◌else◌}
 use Rattle.std.specs.List.{Contains}
-use Rattle.std.proofs.lemmas.List.Elements.{Contains-append_cases}
-use Rattle.std.proofs.lemmas.List.{set-get_or}
-use Rattle.std.proofs.Math.Nat.{mod-add-mod}
-use mathlib.Core.Logic.{dite}
 use mathlib.Core.Option as core
 use mathlib.Core.List.{IsPrefix}
-use native.Mathlib.Decide.{ℕ_discrete}
 use lib.ListN.{get_elem?}
-use prog.Atomic.{either}
-use Rattle.atomic_table.specs.Table.{State, step, keeps, takes, gives, stepped, Allows, Splits, Joins, opening, Final, Seen}
-use Rattle.atomic_table.proofs.Lists.{set_here, set_else, at_longer, one_turn}
+use Rattle.atomic_table.specs.Table.{State, opening, Final, Seen}
 use Rattle.vd_gate.specs.declared.story.PastTurn.{PastTurn}
 use Rattle.vd_gate.specs.declared.view.View.{View}
-use Rattle.vd_gate.specs.Turns.{entry_by, entries_by}
-use Rattle.vd_gate.specs.Views.{SeatState, new_view, with_seen, with_ticket, with_turn_held, after_turn, with_number_drawn, with_number_given, split_view, joined_view, spent_view, without_told}
-use Rattle.vd_gate.specs.Rule.{modulus, GateState, gate_state, Fits, ticket_count, tickets_out, NoTurnHeld, MeetsRule}
-use Rattle.vd_gate.specs.Steps.{LoadsTicket, DrawsTicket, LoadsServing, AdvancesServing, DrawsNumber, LearnsOfJoin}
-use Rattle.vd_gate.proofs.Lists.{prefix_self, prefix_push, prefix_shorter, at_end, at_below, each_set, one_set, same_place, contains_cons, contains_none}
-use Rattle.vd_gate.proofs.Entries.{entries_by-push, entries_by_other, with_turn_has}
-use Rattle.vd_gate.proofs.Frames.{not_true, nothing, with_one, with_one-same, with_one-other, no_turn_held_before, tickets_out-same, tickets_out-set, tickets_out-push, tickets_out_small, state_of, still, moved, unmoved}
+use Rattle.vd_gate.specs.Turns.{entries_by}
+use Rattle.vd_gate.specs.Views.{SeatState, new_view}
+use Rattle.vd_gate.specs.Rule.{gate_state, Fits, NoTurnHeld, MeetsRule}
+use Rattle.vd_gate.proofs.Lists.{at_below, each_set, same_place, contains_cons, contains_none}
+use Rattle.vd_gate.proofs.Frames.{not_true, nothing}
 
 module _ {E S : Type 0} (stands : ℕ → S → List (PastTurn E) → Type 0) (base : ℕ) where
   abbrev St : Type 0

@@ -1,7 +1,7 @@
 -- The gate's rule, which holds between any two steps: it ties the three words, the slot and all views to one history.
 -- Word 0 is the next ticket, word 1 the ticket that is served, and word 2 the number of passes made. A ticket is an unbounded number, the words count modulo 2^64.
 -- Seats come by splits alone, in order, so that the number of a pass is that of its seat.
-use Rattle.std.specs.Prelude.{◌≡◌, ℕ, ◌+◌, ◌%◌, ◌<◌, ◌≤◌, true, false, List, [], ◌∷◌, length, Option, Some, None, is_some, if◌then◌else◌}
+use Rattle.std.specs.Prelude.{◌≡◌, ℕ, ◌+◌, ◌%◌, ◌<◌, ◌≤◌, true, false, List, [], ◌∷◌, length, Option, Some, is_some, if◌then◌else◌}
 use Rattle.std.specs.List.{Contains}
 use mathlib.Core.Option as core
 use mathlib.Core.List.{IsPrefix}

@@ -5,7 +5,6 @@ use Rattle.std.specs.List.{Contains}
 use mathlib.Core.List.{IsPrefix}
 use Rattle.atomic_table.specs.Table.{Step, rest}
 use Rattle.vd_gate.specs.declared.story.PastTurn.{PastTurn}
-use Rattle.vd_gate.specs.declared.view.View.{View}
 use Rattle.vd_gate.specs.Turns.{entries_by}
 use Rattle.vd_gate.specs.Views.{SeatState, with_seen, with_ticket, with_turn_held, after_turn, with_number_drawn, without_told}
 use Rattle.vd_gate.specs.Rule.{modulus}

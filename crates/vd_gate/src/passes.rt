@@ -54,7 +54,12 @@ impl<S: Story> Gate<S> {
         }
         let number = pass.made;
         let shared = &self.table.shared;
-        shared.compare_exchange::<DrawNumber>(&mut pass.seat, PASSES, number as u64, number as u64 + 1);
+        shared.compare_exchange::<DrawNumber>(
+            &mut pass.seat,
+            PASSES,
+            number as u64,
+            number as u64 + 1,
+        );
         let seat = shared.split_seat::<SplitView>(&mut pass.seat);
         pass.made = number + 1;
         Ok(GatePass {

@@ -133,7 +133,9 @@ fn a_gate_makes_64_passes(rt: HostRuntime) -> Result<(), Fail> {
     let mut passes = Vec::new(rt.alloc());
     assert_eq!(rt; pass.number(), 0);
     for number in 1..64u32 {
-        let other = gate.split(&mut pass).expect(&rt, "63 passes after the first");
+        let other = gate
+            .split(&mut pass)
+            .expect(&rt, "63 passes after the first");
         assert_eq!(rt; other.number(), number);
         passes.push(other)?;
     }

@@ -1,4 +1,4 @@
-use Rattle.std.proofs.Common.{rules, arith, ◌≡◌, ℕ, ◌<◌, List, [], ◌∷◌, sym, ◌∙◌, subst}
+use Rattle.std.proofs.Common.{rules, arith, ◌≡◌, ℕ, ◌<◌, List, [], ◌∷◌, sym, subst}
 use Rattle.vd_gate.specs.declared.pass.GatePass.{GatePass}
 use Rattle.vd_gate.specs.declared.tests.Tape.{Tape}
 use Rattle.vd_gate.specs.Passes.{number_of, made_of}
