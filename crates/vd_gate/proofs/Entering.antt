@@ -1,4 +1,4 @@
--- From one step of a turn to the next.
+-- From one step of a pass that enters to the next.
 use Rattle.std.proofs.Common.{◌≡◌, ◌≢◌, ℕ, ◌%◌, true, List, ◌∷◌, Option, Some, None, refl, ap, sym, ◌∙◌, subst}
 use Rattle.std.specs.List.{Contains}
 use mathlib.Core.List.{IsPrefix}
@@ -12,11 +12,11 @@ use Rattle.vd_gate.specs.Steps.{TakesTurn, HasLooked, HasDrawn, HasEntered}
 use Rattle.vd_gate.proofs.Lists.{prefix_self, prefix_trans}
 
 module _ {S : Type 0} where
-  headed : (a b : ℕ × Option S) (xs ys : List (ℕ × Option S)) → a ∷ xs ≡ b ∷ ys → (a.1 ≡ b.1) × (xs ≡ ys)
-  headed a b xs ys e = let pair : a ≡ b = cc in (ap (λ (p : ℕ × Option S). p.1) pair, cc)
+  slot_lists_equal : (a b : ℕ × Option S) (xs ys : List (ℕ × Option S)) → a ∷ xs ≡ b ∷ ys → (a.1 ≡ b.1) × (xs ≡ ys)
+  slot_lists_equal a b xs ys e = let pair : a ≡ b = cc in (ap (λ (p : ℕ × Option S). p.1) pair, cc)
 
-  some_of : (x y : S) → Some x ≡ Some y → x ≡ y
-  some_of x y e = cc
+  some-injective : (x y : S) → Some x ≡ Some y → x ≡ y
+  some-injective x y e = cc
 
 module _ {S E : Type 0} where
   pub has_looked_self : (m : SeatState S E) → HasLooked m m
@@ -25,10 +25,6 @@ module _ {S E : Type 0} where
   pub has_looked_on : (m k l : SeatState S E) → HasLooked m k → (l.1 ≡ k.1) × ((seen : List (PastTurn E)) × IsPrefix k.0.seen seen × (l.0 ≡ with_seen seen k.0)) → HasLooked m l
   has_looked_on m k l (s, p, is, slots) (same, (t, q, now)) =
       (t, prefix_trans m.0.seen s t p (subst (λ (v : View E). IsPrefix v.seen t) is q), now ∙ ap (with_seen t) is, same ∙ slots)
-
-  pub has_drawn_of : (m k l : SeatState S E) (r old found : ℕ) → HasLooked m k → (l.1 ≡ k.1) × (r ≡ old → (x : ℕ) × (x % modulus ≡ r) × (l.0 ≡ with_ticket x k.0)) × (r ≢ old → l.0 ≡ k.0) → r ≡ old → found ≡ r → HasDrawn found m l
-  has_drawn_of m k l r old found (s, p, is, slots) d hit same =
-      let e = d.1 hit in (s, e.0, p, e.1 ∙ sym same, e.2 ∙ ap (with_ticket e.0) is, d.0 ∙ slots)
 
   -- what stays at a look
   pub has_looked-ticket : (m k : SeatState S E) → HasLooked m k → k.0.ticket ≡ m.0.ticket
@@ -44,8 +40,8 @@ module _ {S E : Type 0} where
   pub has_entered_of : (stands : ℕ → S → List (PastTurn E) → Type 0) (m k l : SeatState S E) (found : Option S) (state : S) → TakesTurn stands m k → k.1 ≡ (0, found) ∷ rest k.1
       → l ≡ (k.0, (0, None) ∷ rest k.1) → found ≡ Some state → HasEntered stands state m l
   has_entered_of stands m k l found state (seen, there, p, is, slots, for, mine) was now got =
-      let h = headed (0, found) (0, Some there) (rest k.1) m.1 (sym was ∙ slots) in
-      let same : there ≡ state = some_of there state (sym h.0 ∙ got) in (
+      let h = slot_lists_equal (0, found) (0, Some there) (rest k.1) m.1 (sym was ∙ slots) in
+      let same : there ≡ state = some-injective there state (sym h.0 ∙ got) in (
         seen,
         p,
         ap (λ (n : SeatState S E). n.0) now ∙ is,
@@ -58,20 +54,12 @@ module _ {S E : Type 0} where
   ServingTold stands r j k = (y : ℕ) → j.0.ticket ≡ Some y → (r ≡ y % modulus → TakesTurn stands j k) × (r ≢ y % modulus → k ≡ j)
 
   -- the ticket was served
-  pub taken_of : (stands : ℕ → S → List (PastTurn E) → Type 0) (m j k : SeatState S E) (x r ticket : ℕ) → j ≡ m → m.0.ticket ≡ Some x → x % modulus ≡ ticket → r ≡ ticket → ServingTold stands r j k → TakesTurn stands m k
-  taken_of stands m j k x r ticket same has low hit told =
+  pub takes_turn_of : (stands : ℕ → S → List (PastTurn E) → Type 0) (m j k : SeatState S E) (x r ticket : ℕ) → j ≡ m → m.0.ticket ≡ Some x → x % modulus ≡ ticket → r ≡ ticket → ServingTold stands r j k → TakesTurn stands m k
+  takes_turn_of stands m j k x r ticket same has low hit told =
       subst (λ (n : SeatState S E). TakesTurn stands n k) same ((told x (ap (λ (n : SeatState S E). n.0.ticket) same ∙ has)).0 (hit ∙ sym low))
 
-  -- it was not
-  pub missed_of : (stands : ℕ → S → List (PastTurn E) → Type 0) (m j k : SeatState S E) (x r ticket : ℕ) → j ≡ m → m.0.ticket ≡ Some x → x % modulus ≡ ticket → r ≢ ticket → ServingTold stands r j k → k ≡ m
-  missed_of stands m j k x r ticket same has low miss told = (told x (ap (λ (n : SeatState S E). n.0.ticket) same ∙ has)).1 (λ hit. miss (hit ∙ low)) ∙ same
-
-  pub slot_of : (stands : ℕ → S → List (PastTurn E) → Type 0) (m k : SeatState S E) → TakesTurn stands m k → (old : Option S) × (k.1 ≡ (0, old) ∷ rest k.1)
-  slot_of stands m k (seen, there, p, is, slots, for, mine) = (Some there, slots ∙ ap (λ (r : List (ℕ × Option S)). (0, Some there) ∷ r) (sym (ap rest slots)))
-
-  pub not_empty : (stands : ℕ → S → List (PastTurn E) → Type 0) (m k : SeatState S E) (found : Option S) → TakesTurn stands m k → k.1 ≡ (0, found) ∷ rest k.1 → found ≢ None
-  not_empty stands m k found (seen, there, p, is, slots, for, mine) was none = let h = headed (0, found) (0, Some there) (rest k.1) m.1 (sym was ∙ slots) in
-      let e : ◌≡◌ {A = Option S} None (Some there) = sym none ∙ h.0 in cc
+  pub slot_of_turn : (stands : ℕ → S → List (PastTurn E) → Type 0) (m k : SeatState S E) → TakesTurn stands m k → (old : Option S) × (k.1 ≡ (0, old) ∷ rest k.1)
+  slot_of_turn stands m k (seen, there, p, is, slots, for, mine) = (Some there, slots ∙ ap (λ (r : List (ℕ × Option S)). (0, Some there) ∷ r) (sym (ap rest slots)))
 
   -- a seat that has drawn a ticket and entered
   pub record HasTurn (stands : ℕ → S → List (PastTurn E) → Type 0) (state : S) (m l : SeatState S E) : Type 0 where

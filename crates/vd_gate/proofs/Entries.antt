@@ -1,4 +1,4 @@
--- The entries of a number in a list of turns, and lists of entries after a turn.
+-- The entries of a number in a list of turns, and lists of entries after a turn. Callers that follow what a pass entered need these too.
 use Rattle.std.proofs.Common.{◌≡◌, ◌≢◌, ℕ, ◌==◌, ⊎_elim, true, false, List, [], ◌∷◌, ◌++◌, Option, Some, None, refl, ap, sym, ◌∙◌, subst, append_assoc, append-nil, eq-eqb, ne_eqb}
 use Rattle.std.specs.Prelude.{option_to_list, if◌then◌else◌}
 use Rattle.std.specs.List.{Contains}
@@ -14,12 +14,14 @@ module _ {E : Type 0} where
   pub entries_by-push : (n : ℕ) (ts : List (PastTurn E)) (t : PastTurn E) → entries_by n (ts ++ t ∷ []) ≡ entries_by n ts ++ entry_by n t
   entries_by-push n ts t = entries_by-append n ts (t ∷ []) ∙ ap (λ l. entries_by n ts ++ l) (append-nil (entry_by n t))
 
+  -- a turn of another pass has no entry of this one
   pub entry_by_other : (n : ℕ) (t : PastTurn E) → t.number ≢ n → entry_by n t ≡ []
   entry_by_other n t other = ap (λ b. if b then option_to_list t.entry else []) (ne_eqb t.number n other)
 
   pub entries_by_other : (n : ℕ) (ts : List (PastTurn E)) (t : PastTurn E) → t.number ≢ n → entries_by n (ts ++ t ∷ []) ≡ entries_by n ts
   entries_by_other n ts t other = entries_by-push n ts t ∙ (ap (λ l. entries_by n ts ++ l) (entry_by_other n t other) ∙ append-nil (entries_by n ts))
 
+  -- where a list after the turn comes from
   pub with_turn_has : (t : PastTurn E) (mine : List (ℕ × List E)) (n : ℕ) (es : List E) → Contains (with_turn t mine) (n, es) → (old : List E) × Contains mine (n, old) × (es ≡ old ++ entry_by n t)
   with_turn_has t mine n es c = let r = contains_map (λ p. (p.0, p.1 ++ entry_by p.0 t)) mine (n, es) c in
       let same : r.0.0 ≡ n = ap (λ (p : ℕ × List E). p.0) r.2 in
@@ -46,21 +48,23 @@ module _ {E : Type 0} where
   exact_after turns t mine exact n es c = let o = with_turn_has t mine n es c in
       entries_by-push n turns t ∙ (ap (λ (l : List E). l ++ entry_by n t) (exact n o.0 o.1) ∙ sym o.2)
 
+  -- what becomes of a list at the turn
   with_turn_keeps : (t : PastTurn E) (mine : List (ℕ × List E)) (n : ℕ) (es : List E) → Contains mine (n, es) → Contains (with_turn t mine) (n, es ++ entry_by n t)
   with_turn_keeps t [] n es c = absurd (contains_none (n, es) c)
   with_turn_keeps t (p ∷ ps) n es c = ⊎_elim
       (λ (e : p ≡ (n, es)). subst (λ (q : ℕ × List E). Contains (with_turn t (p ∷ ps)) (q.0, q.1 ++ entry_by q.0 t)) e (contains_first (p.0, p.1 ++ entry_by p.0 t) (with_turn t ps)))
       (λ (d : Contains ps (n, es)). contains_rest (p.0, p.1 ++ entry_by p.0 t) (n, es ++ entry_by n t) (with_turn t ps) (with_turn_keeps t ps n es d)) (contains_cons p (n, es) ps c)
 
-  only : (n k : ℕ) (es : List E) → Contains {X = ℕ × List E} ((n, []) ∷ []) (k, es) → [] ≡ es
-  only n k es c = ⊎_elim (λ (e : ◌≡◌ {A = ℕ × List E} (n, []) (k, es)). ap (λ (p : ℕ × List E). p.1) e)
+  -- the only list of a new pass is empty
+  new_list_empty : (n k : ℕ) (es : List E) → Contains {X = ℕ × List E} ((n, []) ∷ []) (k, es) → [] ≡ es
+  new_list_empty n k es c = ⊎_elim (λ (e : ◌≡◌ {A = ℕ × List E} (n, []) (k, es)). ap (λ (p : ℕ × List E). p.1) e)
       (λ (d : Contains [] (k, es)). absurd (contains_none (k, es) d)) (contains_cons (n, []) (k, es) [] c)
 
   -- the one list of a new pass
   pub has_lists_new : (n : ℕ) → HasLists {E = E} n ((n, []) ∷ [])
   has_lists_new n = record {
     own = ([], contains_first {A = ℕ × List E} (n, []) []);
-    one = λ k es fs c d. sym (only n k es c) ∙ only n k fs d;
+    one = λ k es fs c d. sym (new_list_empty n k es c) ∙ new_list_empty n k fs d;
   }
 
   pub has_lists_with_turn : (n : ℕ) (t : PastTurn E) (mine : List (ℕ × List E)) → HasLists n mine → HasLists n (with_turn t mine)

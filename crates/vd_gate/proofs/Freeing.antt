@@ -13,9 +13,9 @@ use Rattle.vd_gate.proofs.Entries.{has_lists_new, has_lists_with_turn}
 
 module _ {S E : Type 0} where
   -- a usable pass stays so where its number and what its view says of it stay, and its lists are in order
-  usable_still : (p q : GatePass S E) → IsUsable p → q.number ≡ p.number → q.made ≡ p.made → q.seat.me.0.live ≡ p.seat.me.0.live → q.seat.me.0.drawn ≡ p.seat.me.0.drawn
+  usable_after : (p q : GatePass S E) → IsUsable p → q.number ≡ p.number → q.made ≡ p.made → q.seat.me.0.live ≡ p.seat.me.0.live → q.seat.me.0.drawn ≡ p.seat.me.0.drawn
       → q.seat.me.0.number ≡ p.seat.me.0.number → q.seat.me.0.made ≡ p.seat.me.0.made → HasLists p.number q.seat.me.0.mine → IsUsable q
-  usable_still p q u number made live drawn same count lists = record {
+  usable_after p q u number made live drawn same count lists = record {
     live = live ∙ u.live;
     given = drawn ∙ u.given;
     number = number ∙ (u.number ∙ sym same);
@@ -29,7 +29,7 @@ module _ {S E : Type 0} where
       → q.number ≡ p.number → q.made ≡ p.made → q.seat.me.0 ≡ after_turn t m.0 → q.seat.me.1 ≡ rest m.1 → IsFree q
   free_after_turn p q t x m u slot put number made now gone =
       let view : q.seat.me.0 ≡ after_turn t p.seat.me.0 = now ∙ ap (λ (n : SeatState S E). after_turn t n.0) put in record {
-        usable = usable_still p q u number made (ap (λ (v : View E). v.live) view) (ap (λ (v : View E). v.drawn) view) (ap (λ (v : View E). v.number) view) (ap (λ (v : View E). v.made) view)
+        usable = usable_after p q u number made (ap (λ (v : View E). v.live) view) (ap (λ (v : View E). v.drawn) view) (ap (λ (v : View E). v.number) view) (ap (λ (v : View E). v.made) view)
             (subst (λ (v : View E). HasLists p.number v.mine) (sym view) (has_lists_with_turn p.number t p.seat.me.0.mine u.lists));
         no_ticket = ap (λ (v : View E). v.ticket) view;
         no_turn = ap (λ (v : View E). v.holds) view;
@@ -46,7 +46,7 @@ module _ {S E : Type 0} where
         own = (u.lists.own.0, Contains-append_left p.seat.me.0.mine w.mine (p.number, u.lists.own.0) u.lists.own.1);
         one = subst (λ (n : SeatState S E). (n' : ℕ) (es fs : List E) → Contains n.0.mine (n', es) → Contains n.0.mine (n', fs) → es ≡ fs) joined one;
       } in record {
-        usable = usable_still p q u number made (ap (λ (v : View E). v.live) view) (ap (λ (v : View E). v.drawn) view) (ap (λ (v : View E). v.number) view) (ap (λ (v : View E). v.made) view)
+        usable = usable_after p q u number made (ap (λ (v : View E). v.live) view) (ap (λ (v : View E). v.drawn) view) (ap (λ (v : View E). v.number) view) (ap (λ (v : View E). v.made) view)
             (subst (λ (v : View E). HasLists p.number v.mine) (sym view) lists);
         no_ticket = ap (λ (v : View E). v.ticket) view ∙ f.no_ticket;
         no_turn = ap (λ (v : View E). v.holds) view ∙ f.no_turn;

@@ -1,4 +1,4 @@
--- Beginnings of lists, lists of views, and the entries of a number.
+-- Prefixes, places and elements of lists.
 use Rattle.std.proofs.Common.{◌≡◌, ◌≢◌, ℕ, zero, suc, ◌<◌, ◌≤◌, ◌⊎◌, List, [], ◌∷◌, ◌++◌, map, length, set, refl, ap, sym, ◌∙◌, subst, inl, inr, ⊎_elim, arith, append_assoc, append-nil}
 use Rattle.std.specs.List.{Contains}
 use mathlib.Core.Option as core
@@ -16,7 +16,7 @@ module _ {A : Type 0} where
   pub prefix_trans : (xs ys zs : List A) → IsPrefix xs ys → IsPrefix ys zs → IsPrefix xs zs
   prefix_trans xs ys zs p q = (p.0 ++ q.0, sym (append_assoc xs p.0 q.0) ∙ (ap (λ w. w ++ q.0) p.1 ∙ q.1))
 
-  -- of two beginnings of one list the shorter begins the longer
+  -- of two prefixes of one list the shorter is a prefix of the longer
   pub prefix_shorter : (xs ys zs : List A) → IsPrefix xs zs → IsPrefix ys zs → length xs ≤ length ys → IsPrefix xs ys
   prefix_shorter [] ys zs p q le = (ys, refl)
   prefix_shorter (x ∷ xs) [] zs p q le = absurd (omega arith)
@@ -26,32 +26,35 @@ module _ {A : Type 0} where
       let rest = prefix_shorter xs ys zs (p.0, cc (p.1)) (q.0, cc (q.1)) (omega arith) in
       (rest.0, cc (heads, rest.1))
 
-  pub at_end : (l : List A) (a b : A) (j : ℕ) → get_elem? (l ++ a ∷ []) j ≡ core.some b → (get_elem? l j ≡ core.some b) ⊎ ((j ≡ length l) × (a ≡ b))
-  at_end [] a b zero e = inr (refl, core.some-injective a b e)
-  at_end [] a b (suc j) e = absurd (core.some-ne-none b (sym e))
-  at_end (x ∷ xs) a b zero e = inl e
-  at_end (x ∷ xs) a b (suc j) e = ⊎_elim (λ t. inl t) (λ t. inr (ap suc t.0, t.1)) (at_end xs a b j e)
+  -- what stands in a list with one element more
+  pub at_pushed : (l : List A) (a b : A) (j : ℕ) → get_elem? (l ++ a ∷ []) j ≡ core.some b → (get_elem? l j ≡ core.some b) ⊎ ((j ≡ length l) × (a ≡ b))
+  at_pushed [] a b zero e = inr (refl, core.some-injective a b e)
+  at_pushed [] a b (suc j) e = absurd (core.some-ne-none b (sym e))
+  at_pushed (x ∷ xs) a b zero e = inl e
+  at_pushed (x ∷ xs) a b (suc j) e = ⊎_elim (λ t. inl t) (λ t. inr (ap suc t.0, t.1)) (at_pushed xs a b j e)
 
-  pub at_below : (l : List A) (j : ℕ) (b : A) → get_elem? l j ≡ core.some b → j < length l
-  at_below [] j b e = absurd (core.some-ne-none b (sym e))
-  at_below (x ∷ xs) zero b e = omega arith
-  at_below (x ∷ xs) (suc j) b e = let h = at_below xs j b e in omega arith
+  pub place_below_length : (l : List A) (j : ℕ) (b : A) → get_elem? l j ≡ core.some b → j < length l
+  place_below_length [] j b e = absurd (core.some-ne-none b (sym e))
+  place_below_length (x ∷ xs) zero b e = omega arith
+  place_below_length (x ∷ xs) (suc j) b e = let h = place_below_length xs j b e in omega arith
 
   -- a fact of each place stays where the place id is set to w
-  pub each_set : (K : ℕ → A → Type 0) (l : List A) (id : ℕ) (w : A) → K id w → ((j : ℕ) (u : A) → j ≢ id → get_elem? l j ≡ core.some u → K j u)
+  pub each_after_set : (K : ℕ → A → Type 0) (l : List A) (id : ℕ) (w : A) → K id w → ((j : ℕ) (u : A) → j ≢ id → get_elem? l j ≡ core.some u → K j u)
       → (j : ℕ) (u : A) → get_elem? (set l id w) j ≡ core.some u → K j u
-  each_set K l id w mine others j u e = ⊎_elim (λ (t : (j ≡ id) × (w ≡ u)). subst (λ (x : ℕ × A). K x.0 x.1) (λ i. (sym t.0 i, t.1 i)) mine)
+  each_after_set K l id w mine others j u e = ⊎_elim (λ (t : (j ≡ id) × (w ≡ u)). subst (λ (x : ℕ × A). K x.0 x.1) (λ i. (sym t.0 i, t.1 i)) mine)
       (λ (t : (j ≢ id) × (get_elem? l j ≡ core.some u)). others j u t.0 t.1) (at_set l id j w u e)
 
-  pub one_set : (l : List A) (a : A) → length l ≡ 1 → set l 0 a ≡ a ∷ []
-  one_set [] a e = absurd (omega arith)
-  one_set (x ∷ []) a e = refl
-  one_set (x ∷ y ∷ ys) a e = absurd (omega arith)
+  -- the one place of a list is set
+  pub set_only : (l : List A) (a : A) → length l ≡ 1 → set l 0 a ≡ a ∷ []
+  set_only [] a e = absurd (omega arith)
+  set_only (x ∷ []) a e = refl
+  set_only (x ∷ y ∷ ys) a e = absurd (omega arith)
 
-  pub same_place : (l : List A) (i j : ℕ) (a b : A) → i ≡ j → get_elem? l i ≡ core.some a → get_elem? l j ≡ core.some b → a ≡ b
-  same_place l i j a b e p q = core.some-injective a b (sym p ∙ (ap (get_elem? l) e ∙ q))
+  -- two elements at one place
+  pub same_at_place : (l : List A) (i j : ℕ) (a b : A) → i ≡ j → get_elem? l i ≡ core.some a → get_elem? l j ≡ core.some b → a ≡ b
+  same_at_place l i j a b e p q = core.some-injective a b (sym p ∙ (ap (get_elem? l) e ∙ q))
 
-  -- in both directions, between places and elements
+  -- the elements of a list by its first and the rest
   pub contains_cons : (x y : A) (xs : List A) → Contains (x ∷ xs) y → (x ≡ y) ⊎ Contains xs y
   contains_cons x y xs (zero, below, is) = inl is
   contains_cons x y xs (suc k, below, is) = inr (k, omega arith, is)

@@ -14,8 +14,8 @@ use Rattle.vd_gate.specs.declared.view.View.{View}
 use Rattle.vd_gate.specs.Views.{SeatState, with_number_drawn, with_number_given, split_view, joined_view, spent_view, without_told}
 use Rattle.vd_gate.specs.Rule.{modulus, GateState, gate_state, Fits, tickets_out, MeetsRule}
 use Rattle.vd_gate.specs.Steps.{DrawsNumber, LearnsOfJoin}
-use Rattle.vd_gate.proofs.Lists.{prefix_shorter, at_end, at_below, each_set, contains_cons, contains_none}
-use Rattle.vd_gate.proofs.Frames.{nothing, with_one, with_one-same, with_one-other, no_turn_held_before, tickets_out-same, tickets_out-push, state_of, still, moved, unmoved}
+use Rattle.vd_gate.proofs.Lists.{prefix_shorter, at_pushed, place_below_length, each_after_set, contains_cons, contains_none}
+use Rattle.vd_gate.proofs.Frames.{none_is_not_some, with_one, with_one-same, with_one-other, no_turn_held_before, tickets_out-same, tickets_out-push, state_of, fits_others, rule_after_step, rule_after_load}
 
 module _ {E S : Type 0} (stands : ℕ → S → List (PastTurn E) → Type 0) (base : ℕ) where
   abbrev St : Type 0
@@ -42,7 +42,7 @@ module _ {E S : Type 0} (stands : ℕ → S → List (PastTurn E) → Type 0) (b
         keeps,
         tt,
         subst (λ b. Rule (stepped s 2 (either b new (get_or s.words 2 0)) id me.1 w keeps)) (sym (eq-eqb (get_or s.words 2 0) old found))
-            (moved s r id w r.history (tickets_out s.views) new r.holder (set s.words 2 new) s.homes (tickets_out-same s.views id v w at refl) (omega arith) (omega arith)
+            (rule_after_step s r id w r.history (tickets_out s.views) new r.holder (set s.words 2 new) s.homes (tickets_out-same s.views id v w at refl) (omega arith) (omega arith)
             (ap (λ (l : List ℕ). set l 2 new) r.words)
             record {
               living = f.living;
@@ -53,7 +53,7 @@ module _ {E S : Type 0} (stands : ℕ → S → List (PastTurn E) → Type 0) (b
               holds = f.holds;
               first = λ z. (live, (let e : v.made + 1 ≡ new = omega arith in e), (let e : length s.views + 1 ≡ new = omega arith in e));
             }
-            (λ j u other e. still r.history (tickets_out s.views) (tickets_out s.views) (length s.views) r.made new r.owner r.holder r.holder j u (le_refl (tickets_out s.views)) (λ x _. refl) (λ z. absurd (other (z ∙ sym zeroth))) (r.each j u e))
+            (λ j u other e. fits_others r.history (tickets_out s.views) (tickets_out s.views) (length s.views) r.made new r.owner r.holder r.holder j u (le_refl (tickets_out s.views)) (λ x _. refl) (λ z. absurd (other (z ∙ sym zeroth))) (r.each j u e))
             r.fresh r.slots (λ none. r.home (no_turn_held_before s.views id v w at refl none))),
         (refl, refl),
       )
@@ -63,15 +63,15 @@ module _ {E S : Type 0} (stands : ℕ → S → List (PastTurn E) → Type 0) (b
     w,
     keeps,
     tt,
-    unmoved s r 0 id me.1 v w at refl refl
+    rule_after_load s r 0 id me.1 v w at refl refl
         record { living = f.living; seen = f.seen; told = λ xs c. absurd (contains_none xs c); mine = f.mine; ticket = f.ticket; holds = f.holds; first = f.first },
     (refl, refl, (λ xs c le. prefix_shorter xs v.seen r.history (f.told xs c) f.seen le), (λ n es fs c d. sym (f.mine n es c).2 ∙ (f.mine n fs d).2)),
   )
 
   -- what a seat knows stays so where one seat more comes, with its number
-  grown : (H : List (PastTurn E)) (a seats made : ℕ) (owner holder : ℕ → ℕ) (j : ℕ) (x : View E) (b : Bool) → j < seats → (j ≡ 0 → (x.live ≡ true) × (x.made ≡ made) × ((seats + 1) + (if b then 1 else 0) ≡ made))
+  fits_after_split : (H : List (PastTurn E)) (a seats made : ℕ) (owner holder : ℕ → ℕ) (j : ℕ) (x : View E) (b : Bool) → j < seats → (j ≡ 0 → (x.live ≡ true) × (x.made ≡ made) × ((seats + 1) + (if b then 1 else 0) ≡ made))
       → Fits base (gate_state H a seats made owner holder) j x → Fits base (gate_state H a (seats + 1) made (with_one seats seats owner) holder) j (record x { drawn = b })
-  grown H a seats made owner holder j x b lt one g = record {
+  fits_after_split H a seats made owner holder j x b lt one g = record {
     living = λ l. let o = g.living l in (o.0, o.1, with_one-other seats seats owner j (λ is. omega arith) ∙ o.2);
     seen = g.seen;
     told = g.told;
@@ -88,7 +88,7 @@ module _ {E S : Type 0} (stands : ℕ → S → List (PastTurn E) → Type 0) (b
       let H : List (PastTurn E) = r.history in
       let a : ℕ = tickets_out s.views in
       let seats : ℕ = length s.views in
-      let inside : id < seats = at_below s.views id v at in
+      let inside : id < seats = place_below_length s.views id v at in
       let zeroth : id ≡ 0 = sym (f.living live).0 ∙ first in
       let one = f.first zeroth in
       let count : seats + 1 ≡ r.made = ap (λ (b : Bool). seats + (if b then 1 else 0)) (sym drawn) ∙ one.2 in
@@ -101,7 +101,7 @@ module _ {E S : Type 0} (stands : ℕ → S → List (PastTurn E) → Type 0) (b
       let owner : ℕ → ℕ = with_one seats seats r.owner in
       let c : GateState E = gate_state H a (seats + 1) r.made owner r.holder in
       let here : v.made - 1 ≡ seats = (let e : v.made ≡ r.made = one.1 in omega arith) in
-      let left : Fits base c id w = grown H a seats r.made r.owner r.holder id v false inside (λ _. (live, one.1, (let e : (seats + 1) + 0 ≡ r.made = omega arith in e))) f in
+      let left : Fits base c id w = fits_after_split H a seats r.made r.owner r.holder id v false inside (λ _. (live, one.1, (let e : (seats + 1) + 0 ≡ r.made = omega arith in e))) f in
       let right : Fits base c seats u = record {
         living = λ _. (here, (f.living live).1, with_one-same seats seats r.owner seats refl);
         seen = f.seen;
@@ -110,13 +110,13 @@ module _ {E S : Type 0} (stands : ℕ → S → List (PastTurn E) → Type 0) (b
             (λ (e : ◌≡◌ {A = ℕ × List E} (v.made - 1, []) (k, es)). let number : k ≡ seats = sym (ap (λ (p : ℕ × List E). p.0) e) ∙ here in let entries : [] ≡ es = ap (λ (p : ℕ × List E). p.1) e in
             (omega arith, with_one-same seats seats r.owner k number, r.fresh k (omega arith) ∙ entries))
             (λ (d : Contains [] (k, es)). absurd (contains_none (k, es) d)) (contains_cons (v.made - 1, []) (k, es) [] d);
-        ticket = λ x e. absurd (nothing x e);
+        ticket = λ x e. absurd (none_is_not_some x e);
         holds = λ h. absurd (let c : false ≡ true = h in cc);
         first = λ z. absurd (omega arith);
       } in
       let all : (j : ℕ) (x : View E) → get_elem? (vs ++ u ∷ []) j ≡ core.some x → Fits base c j x = (λ j x e. ⊎_elim
-      (each_set (Fits base c) s.views id w left (λ i y other at'. grown H a seats r.made r.owner r.holder i y y.drawn (at_below s.views i y at') (λ z. absurd (other (z ∙ sym zeroth))) (r.each i y at')) j x)
-      (λ (t : (j ≡ length vs) × (u ≡ x)). subst (λ (p : ℕ × View E). Fits base c p.0 p.1) (λ i. (sym (t.0 ∙ size) i, t.1 i)) right) (at_end vs u x j e)) in record {
+      (each_after_set (Fits base c) s.views id w left (λ i y other at'. fits_after_split H a seats r.made r.owner r.holder i y y.drawn (place_below_length s.views i y at') (λ z. absurd (other (z ∙ sym zeroth))) (r.each i y at')) j x)
+      (λ (t : (j ≡ length vs) × (u ≡ x)). subst (λ (p : ℕ × View E). Fits base c p.0 p.1) (λ i. (sym (t.0 ∙ size) i, t.1 i)) right) (at_pushed vs u x j e)) in record {
         history = H;
         made = r.made;
         owner = owner;
@@ -164,7 +164,7 @@ module _ {E S : Type 0} (stands : ℕ → S → List (PastTurn E) → Type 0) (b
         seen = (H, refl);
         told = λ xs d. absurd (contains_none xs d);
         mine = λ k es d. absurd (contains_none (k, es) d);
-        ticket = λ x e. absurd (nothing x e);
+        ticket = λ x e. absurd (none_is_not_some x e);
         holds = λ h. absurd (let c : false ≡ true = h in cc);
         first = λ z. absurd (late z);
       } in
@@ -181,8 +181,8 @@ module _ {E S : Type 0} (stands : ℕ → S → List (PastTurn E) → Type 0) (b
       let size : length us ≡ seats = length-set vs other spent_view ∙ length-set s.views id both in
       let tickets : tickets_out us ≡ a = tickets_out-same vs other w spent_view there (sym no_ticket_there) ∙ tickets_out-same s.views id v both at refl in
       let all : (j : ℕ) (x : View E) → get_elem? us j ≡ core.some x → Fits base c j x =
-      each_set (Fits base c) vs other spent_view gone
-      (λ j x ne e. each_set (λ i y. i ≢ other → Fits base c i y) s.views id both (λ _. kept) (λ i y _ at' ne'. rest i y ne' (r.each i y at')) j x e ne) in record {
+      each_after_set (Fits base c) vs other spent_view gone
+      (λ j x ne e. each_after_set (λ i y. i ≢ other → Fits base c i y) s.views id both (λ _. kept) (λ i y _ at' ne'. rest i y ne' (r.each i y at')) j x e ne) in record {
         history = H;
         made = r.made;
         owner = owner;

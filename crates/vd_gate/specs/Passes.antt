@@ -78,6 +78,11 @@ module _ {S E : Type 0} where
     pub mine : mine_of q ≡ mine_of p
     pub blank : blank_of q ≡ blank_of p
 
+  -- t is a turn of the pass p, and the state stands for the turns before this one and t
+  pub record IsNextTurn (stands : ℕ → S → List (PastTurn E) → Type 0) (turn : Turn S E) (p : GatePass S E) (state : S) (t : PastTurn E) : Type 0 where
+    pub number : t.number ≡ number_of p
+    pub after : stands (base_of p) state (turns_of turn ++ t ∷ [])
+
   -- q is the pass p after its turn t: the history seen has t more, and the entry of t, if any, joins the list of its number
   pub record Leaves (t : PastTurn E) (p q : GatePass S E) : Type 0 where
     pub number : number_of q ≡ number_of p
@@ -97,6 +102,14 @@ module _ {S E : Type 0} where
     pub mine : mine_of q ≡ mine_of p ++ mine_of o
     pub blank : blank_of q ≡ blank_of p
     pub made : made_of q ≡ made_of p
+
+  -- the pass of number 0 of a new gate
+  pub record IsFirstPass (p : GatePass S E) : Type 0 where
+    pub number : number_of p ≡ 0
+    pub seen : seen_of p ≡ []
+    pub mine : mine_of p ≡ (0, []) ∷ []
+    pub blank : blank_of p ≡ 0
+    pub made : made_of p ≡ 1
 
   -- q is a new pass of number n, which has seen what p had seen and has entered nothing
   pub record IsNewPass (n : ℕ) (p q : GatePass S E) : Type 0 where

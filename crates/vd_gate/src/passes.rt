@@ -1,7 +1,8 @@
 //! How a gate is made and closed, and how passes are made and joined.
-ghost use Rattle.std.specs.Prelude.{◌≡◌, ◌≢◌, ℕ, ◌+◌, ◌⊎◌, ◌<◌, ◌↔◌, List, [], ◌∷◌, IfOk, OnErr, IsErr};
+ghost use Rattle.std.specs.Prelude.{◌≡◌, ◌≢◌, ℕ, ◌+◌, ◌⊎◌, ◌<◌, ◌↔◌, List, [], IfOk, OnOk, OnErr, IsErr};
 ghost use Rattle.vd_gate.specs.declared.story.PastTurn.{PastTurn};
-ghost use Rattle.vd_gate.specs.Passes.{number_of, seen_of, mine_of, blank_of, made_of, IsFree, IsNewPass, SameButMade, TakesOver, KnowsAllOf, IsHistoryOf};
+ghost use Rattle.vd_gate.specs.Passes.{number_of, made_of, IsFree, IsFirstPass, IsNewPass, SameButMade};
+ghost use Rattle.vd_gate.specs.Passes.{TakesOver, KnowsAllOf, IsHistoryOf};
 ghost use Rattle.vd_gate.specs.Gates.{base_at, IsPassOf, AreAllPasses};
 
 use crate::gate::{Gate, MOST_PASSES, Many, PASSES, TICKETS};
@@ -25,7 +26,7 @@ impl<S: Story> Gate<S> {
     pub fn new(alloc: Global, base: u32, state: S) -> Result<(Gate<S>, GatePass<S>), AllocError>
         requires { S.stands base state [] }
         ensures gate { IfOk result (λ g. (base_at g.0 ≡ base) × IsPassOf g.0 g.1 × IsFree g.1) }
-        ensures pass { IfOk result (λ g. (number_of g.1 ≡ 0) × (seen_of g.1 ≡ []) × (mine_of g.1 ≡ (0, []) ∷ []) × (blank_of g.1 ≡ 0) × (made_of g.1 ≡ 1)) }
+        ensures pass { IfOk result (λ g. IsFirstPass g.1) }
     {
         let mut slots = Vec::new(alloc);
         slots.push(Some(state))?;
@@ -40,14 +41,15 @@ impl<S: Story> Gate<S> {
         Ok((Gate { table }, pass))
     }
 
-    /// A pass with the next number, which has seen as much as this one. Only the pass of number 0 makes passes.
+    /// A pass with the next number, which has seen as much as this one. The pass of number 0 makes all others.
     pub fn split(&self, pass: &mut GatePass<S>) -> Result<GatePass<S>, Many>
         requires pass { IsPassOf self.now pass.old × IsFree pass.old }
         requires first { number_of pass.old ≡ 0 }
         ensures pass { IsPassOf self.now pass.new × IsFree pass.new × SameButMade pass.old pass.new }
-        ensures ok { IfOk result (λ p. IsPassOf self.now p × IsFree p × IsNewPass (made_of pass.old) pass.old p × (made_of pass.new ≡ made_of pass.old + 1)) }
+        ensures ok { IfOk result (λ p. IsPassOf self.now p × IsFree p × IsNewPass (made_of pass.old) pass.old p) }
+        ensures counted { OnOk result (made_of pass.new ≡ made_of pass.old + 1) }
         ensures err { IsErr result ↔ (made_of pass.old ≡ 64) }
-        ensures unchanged { OnErr result (made_of pass.new ≡ made_of pass.old) }
+        ensures not_counted { OnErr result (made_of pass.new ≡ made_of pass.old) }
     {
         if pass.made >= MOST_PASSES {
             return Err(Many);
@@ -83,7 +85,8 @@ impl<S: Story> Gate<S> {
         shared.load::<LearnOfJoin>(&mut pass.seat, TICKETS);
     }
 
-    /// The pass answers for the numbers of both from now on, and its `blank` is still that of its own turns alone. The pass of number 0 cannot be taken over.
+    /// The pass answers for the numbers of both from now on. Its `blank` still counts its own turns alone.
+    /// The pass of number 0 cannot be taken over.
     pub fn join(&self, pass: &mut GatePass<S>, other: GatePass<S>)
         requires pass { IsPassOf self.now pass.old × IsFree pass.old }
         requires other { IsPassOf self.now other × IsFree other }
@@ -100,7 +103,9 @@ impl<S: Story> Gate<S> {
         requires pass { IsPassOf self.now pass × IsFree pass }
         ensures pass { IsPassOf self.now result × IsFree result }
         ensures known { KnowsAllOf result main × KnowsAllOf result pass }
-        ensures made { number_of result ≡ 0 → ((number_of main ≡ 0) × (made_of result ≡ made_of main)) ⊎ ((number_of pass ≡ 0) × (made_of result ≡ made_of pass)) }
+        ensures made { number_of result ≡ 0
+            → ((number_of main ≡ 0) × (made_of result ≡ made_of main))
+            ⊎ ((number_of pass ≡ 0) × (made_of result ≡ made_of pass)) }
     {
         if pass.number == 0 {
             let mut kept = pass;
@@ -116,7 +121,8 @@ impl<S: Story> Gate<S> {
     /// The state at the end. It stands for one history of all passes.
     pub fn close(self, mut passes: Vec<GatePass<S>>) -> S
         requires { AreAllPasses self passes.items }
-        ensures { (turns : List (PastTurn S.Entry)) × S.stands (base_at self) result turns × IsHistoryOf passes.items turns }
+        ensures { (turns : List (PastTurn S.Entry))
+            × S.stands (base_at self) result turns × IsHistoryOf passes.items turns }
     {
         let Some(mut main) = passes.pop() else {
             unreachable!()

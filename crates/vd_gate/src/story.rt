@@ -20,6 +20,8 @@ pub trait Story: Drop {
     /// Whether a state stands for these turns over this base. It need not keep the turns without an entry.
     ghost stands: { ℕ → Self → List (PastTurn Self.Entry) → Type 0 };
 
-    /// The state, the turns before the last one and the pass of the last one determine the last one. An advance of the lock is not told which turn it ends: the state tells it.
-    ghost one_more: { (base : ℕ) (state : Self) (turns : List (PastTurn Self.Entry)) (a b : PastTurn Self.Entry) → a.number ≡ b.number → stands base state (turns ++ a ∷ []) → stands base state (turns ++ b ∷ []) → a ≡ b };
+    /// The state, the turns before the last one and the pass of the last one determine the last one.
+    /// An advance of the lock is not told which turn it ends: the state tells it.
+    ghost one_more: { (base : ℕ) (state : Self) (turns : List (PastTurn Self.Entry)) (a b : PastTurn Self.Entry)
+        → a.number ≡ b.number → stands base state (turns ++ a ∷ []) → stands base state (turns ++ b ∷ []) → a ≡ b };
 }

@@ -15,5 +15,5 @@ compare_exchange-requires g c =
     let l : HasLooked c.args.seat.now.me c.load-ticket.new.seat.me = has_looked_on _ _ _ c.loop.invariant.2 c.load-ticket.ensures.2 in (
       search rules,
       search rules,
-      draw_ticket_allowed _ _ _ _ _ _ _ (search rules) (has_looked-ticket _ _ l ∙ c.requires.free.1) (has_looked-holds _ _ l ∙ c.requires.free.2) (has_looked-live _ _ l ∙ c.requires.free.0),
+      draw_ticket_allowed _ _ _ _ _ _ _ (search rules) (has_looked-ticket _ _ l ∙ c.requires.free.0) (has_looked-holds _ _ l ∙ c.requires.free.1) (has_looked-live _ _ l ∙ c.requires.live),
     )

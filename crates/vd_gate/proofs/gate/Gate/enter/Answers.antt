@@ -17,7 +17,7 @@ pub returns-clause-mine : goal.returns-clause-mine
 returns-clause-mine g c = let h = facts g c in λ n es d. subst (λ (l : List (PastTurn g.row.S-Entry.Denot)). entries_by n l ≡ es) (turns g c) (h.mine n es d)
 
 pub returns-clause-seen : goal.returns-clause-seen
-returns-clause-seen g c = let h = facts g c in (subst (λ (l : List (PastTurn g.row.S-Entry.Denot)). IsPrefix c.args.pass.now.seat.me.0.seen l) (turns g c) h.seen, turns g c)
+returns-clause-seen g c = let h = facts g c in subst (λ (l : List (PastTurn g.row.S-Entry.Denot)). IsPrefix c.args.pass.now.seat.me.0.seen l) (turns g c) h.seen
 
 pub returns-clause-state : goal.returns-clause-state
 returns-clause-state g c = let h = facts g c in subst (λ (l : List (PastTurn g.row.S-Entry.Denot)). g.S.Story.stands c.args.pass.now.seat.me.0.base c.wait_for-state.result l) (turns g c) h.for

@@ -14,9 +14,9 @@ fetch_add-serving-requires g c =
       advance_allowed _ _ _ _ _ _ c.args.state t
           (ap (λ (m : SeatState g.row.S.Denot g.row.S-Entry.Denot). m.1) e)
           (ap (λ (m : SeatState g.row.S.Denot g.row.S-Entry.Denot). m.0.holds) e ∙ c.requires.pass.1.turn)
-          (c.requires.next.1 ∙ (c.requires.pass.1.usable.number ∙ sym (ap (λ (m : SeatState g.row.S.Denot g.row.S-Entry.Denot). m.0.number) e)))
+          (c.requires.next.1.number ∙ (c.requires.pass.1.usable.number ∙ sym (ap (λ (m : SeatState g.row.S.Denot g.row.S-Entry.Denot). m.0.number) e)))
           (subst (λ (p : ℕ × List (PastTurn g.row.S-Entry.Denot)). g.S.Story.stands p.0 c.args.state (p.1 ++ t ∷ []))
-          (λ i. (sym (ap (λ (m : SeatState g.row.S.Denot g.row.S-Entry.Denot). m.0.base) e) i, (c.requires.pass.1.turns ∙ sym (ap (λ (m : SeatState g.row.S.Denot g.row.S-Entry.Denot). m.0.seen) e)) i)) c.requires.next.2),
+          (λ i. (sym (ap (λ (m : SeatState g.row.S.Denot g.row.S-Entry.Denot). m.0.base) e) i, (c.requires.pass.1.turns ∙ sym (ap (λ (m : SeatState g.row.S.Denot g.row.S-Entry.Denot). m.0.seen) e)) i)) c.requires.next.1.after),
     )
 
 pub returns-then-peek-serving-clause-pass : goal.returns-then-peek-serving-clause-pass

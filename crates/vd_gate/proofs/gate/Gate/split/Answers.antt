@@ -29,5 +29,4 @@ returns-clause-ok g c =
       search rules,
       free_when_new _ _ _ _ c.split_seat-seat.ensures.4 number (omega arith) (omega arith),
       search rules,
-      search rules,
     )
