@@ -1,0 +1,11 @@
+pub mod Lists
+pub mod Entries
+pub mod Frames
+pub mod TicketSteps
+pub mod SeatSteps
+pub mod Ends
+pub mod Entering
+pub mod Joining
+pub mod Freeing
+pub mod Closing
+pub mod AllPasses
