@@ -1,5 +1,5 @@
 -- Lines of a text.
-use Rattle.std.specs.Prelude.{ℕ, Bool, ◌&&◌, List, [], ◌∷◌, ◌++◌, nat_le, codes}
+use Rattle.std.specs.Prelude.{ℕ, Bool, not, ◌&&◌, ◌==◌, List, [], ◌∷◌, ◌++◌, nat_le, codes}
 use Rattle.std.specs.List.{list_all}
 use Rattle.std.specs.Str.{bytes_eq}
 
@@ -9,6 +9,10 @@ is_line_byte b = nat_le 32 b && nat_le b 126
 
 abbrev pub is_line : List ℕ → Bool
 is_line line = list_all is_line_byte line
+
+-- none of the bytes is that one
+abbrev pub lacks : ℕ → List ℕ → Bool
+lacks byte bytes = list_all (λ b. not (b == byte)) bytes
 
 -- the bytes of lines, each ended by a line feed
 abbrev pub joined : List (List ℕ) → List ℕ

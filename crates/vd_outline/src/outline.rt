@@ -1,17 +1,20 @@
 //! The outline of a whole text.
 
-ghost use Rattle.std.specs.Prelude.{◌≡◌, IfOk, IsErrOf, MatchOption};
+ghost use Rattle.std.specs.Prelude.{◌≡◌, ℕ, IfOk, IsErrOf, MatchOption};
 ghost use Rattle.vd_outline.specs.declared.outline.Outline.{Outline as Outlined};
 ghost use Rattle.vd_outline.specs.declared.outline.TextKind.{TextKind as Kind_of_text};
+ghost use Rattle.vd_outline.specs.Fault.{IsBad};
 ghost use Rattle.vd_outline.specs.Outline.{Bytes, HasHead, Outlines};
 
+use crate::head::cut_head;
+use crate::reading::{SectionFault, read_sections};
 use crate::section::Section;
 use std::alloc::{AllocError, Global};
 use thiserror::Error;
 use vd_base::{List, Name, Text};
 
 /// What a text is.
-#[derive(Clone, Copy, PartialEq, Eq)]
+#[derive(Clone, Copy, Debug, PartialEq, Eq)]
 pub enum TextKind {
     Interface,
     Unit,
@@ -32,9 +35,10 @@ pub enum OutlineFault {
     /// The first line is no head line.
     #[error("no head line")]
     NoHead,
-    /// A line cannot stand where it stands, or lines are missing at the end.
-    #[error("a line that cannot stand where it stands")]
-    Bad,
+    /// The byte, from 0, at which the first line begins that cannot stand where it stands, or the text's length where lines are missing.
+    /// A place above 4294967295 is given as that.
+    #[error("a line that cannot stand where it stands, at {0}")]
+    Bad(u32),
     #[error("out of memory")]
     Memory(AllocError),
 }
@@ -43,18 +47,34 @@ pub enum OutlineFault {
 pub fn head_of(alloc: Global, text: &Text) -> Result<Option<(TextKind, Name)>, AllocError>
     ensures { IfOk result (λ found. MatchOption found ((kind : Kind_of_text) (name : Bytes) → HasHead text.now kind name → ⊥) (λ head. HasHead text.now head.0 head.1)) }
 {
-    let _ = text;
-    let _ = alloc;
-    Err(AllocError)
+    match cut_head(alloc, text.as_bytes())? {
+        Some((kind, name, _)) => Ok(Some((kind, name))),
+        None => Ok(None),
+    }
 }
 
 /// The outline of a text.
 pub fn outline_of(alloc: Global, text: &Text) -> Result<Outline, OutlineFault>
     ensures ok { IfOk result (λ o. Outlines text.now o) }
+    ensures only { IfOk result (λ o. (other : Outlined) → Outlines text.now other → other ≡ o) }
     ensures no_head { IsErrOf result OutlineFault.NoHead → (kind : Kind_of_text) (name : Bytes) → HasHead text.now kind name → ⊥ }
-    ensures bad { IsErrOf result OutlineFault.Bad → (o : Outlined) → Outlines text.now o → ⊥ }
+    ensures bad { (place : ℕ) → IsErrOf result (OutlineFault.Bad place) → IsBad text.now place }
+    ensures none { (place : ℕ) → IsErrOf result (OutlineFault.Bad place) → (o : Outlined) → Outlines text.now o → ⊥ }
 {
-    let _ = text;
-    let _ = alloc;
-    Err(OutlineFault::Memory(AllocError))
+    let bytes = text.as_bytes();
+    let Some((kind, name, rest)) = cut_head(alloc, bytes).map_err(OutlineFault::Memory)? else {
+        return Err(OutlineFault::NoHead);
+    };
+    match read_sections(alloc, kind, rest) {
+        Ok(sections) => Ok(Outline {
+            kind,
+            name,
+            sections,
+        }),
+        Err(SectionFault::Bad(place)) => {
+            let place = bytes.len() - rest.len() + place;
+            Err(OutlineFault::Bad(u32::try_from(place).unwrap_or(u32::MAX)))
+        }
+        Err(SectionFault::Memory(fault)) => Err(OutlineFault::Memory(fault)),
+    }
 }
