@@ -1,5 +1,5 @@
 -- What the readers of sections answer about bytes that stand within a text.
-use Rattle.std.specs.Prelude.{◌≡◌, ◌⊎◌, ℕ, ◌+◌, Bool, true, false, not, List, [], ◌∷◌, ◌++◌, length, flat_map, codes, Option, All}
+use Rattle.std.specs.Prelude.{◌≡◌, ◌⊎◌, ℕ, ◌+◌, Bool, true, false, not, List, [], ◌∷◌, ◌++◌, length, flat_map, codes, Option, None, Some, All}
 use Rattle.std.specs.List.{list_all, list_any}
 use Rattle.std.specs.Str.{bytes_eq}
 use Rattle.vd_outline.specs.declared.outline.TextKind.{TextKind}
@@ -8,6 +8,11 @@ use Rattle.vd_outline.specs.declared.section.Section.{Section}
 use Rattle.vd_outline.specs.declared.section.SectionKind.{SectionKind}
 use Rattle.vd_outline.specs.Lines.{lacks, is_line, is_end, joined}
 use Rattle.vd_outline.specs.Outline.{Bytes, header_line, IsNamed, stands_in, IsSection, AreOnce, HasUnits}
+
+-- the line is this word alone, or the word, a space and this name, and the word has no space
+abbrev pub IsSplit : Bytes → Bytes → Option Bytes → Type 0
+IsSplit line word None = (line ≡ word) × (lacks 32 word ≡ true)
+IsSplit line word (Some name) = (line ≡ word ++ 32 ∷ name) × (lacks 32 word ≡ true)
 
 -- the line is the header line of this kind and name, and may stand in a text of that kind
 pub record IsHeader (text : TextKind) (line : Bytes) (kind : SectionKind) (name : Option Bytes) : Type 0 where

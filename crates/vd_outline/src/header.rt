@@ -1,9 +1,9 @@
 //! Header lines of sections.
 
-ghost use Rattle.std.specs.Prelude.{◌≡◌, true, ◌++◌, ◌∷◌, IfOk, MatchOption, Option};
+ghost use Rattle.std.specs.Prelude.{◌≡◌, true, ◌++◌, ◌∷◌, IfOk, MatchOption, Option, option_copied};
 ghost use Rattle.vd_outline.specs.declared.section.SectionKind.{SectionKind as Kind_of_section};
 ghost use Rattle.vd_outline.specs.Outline.{Bytes, takes_name, stands_in};
-ghost use Rattle.vd_outline.specs.Reading.{IsHeader};
+ghost use Rattle.vd_outline.specs.Reading.{IsHeader, IsSplit};
 ghost use Rattle.vd_outline.specs.Words.{section_kind_from};
 
 use crate::head::name_of;
@@ -12,6 +12,16 @@ use crate::outline::TextKind;
 use crate::section::SectionKind;
 use std::alloc::{AllocError, Global};
 use vd_base::Name;
+
+/// The word that a line begins with, and what stands behind the space that follows it.
+fn split_word(line: &[u8]) -> (&[u8], Option<&[u8]>)
+    ensures { IsSplit line.now result.0.now (option_copied result.1) }
+{
+    match cut_at(line, b' ') {
+        Some((word, name)) => (word, Some(name)),
+        None => (line, None),
+    }
+}
 
 fn section_kind_of(word: &[u8]) -> Option<SectionKind>
     ensures { result ≡ section_kind_from word.now }
@@ -87,14 +97,11 @@ pub(crate) fn header_of(
 ) -> Result<Option<(SectionKind, Option<Name>)>, AllocError>
     ensures { IfOk result (λ found. MatchOption found ((kind : Kind_of_section) (name : Option Bytes) → IsHeader text line.now kind name → ⊥) (λ header. IsHeader text line.now header.0 header.1)) }
 {
-    let (word, name) = match cut_at(line, b' ') {
-        Some((word, name)) => (word, Some(name)),
-        None => (line, None),
-    };
+    let (word, name) = split_word(line);
     let Some(kind) = section_kind_of(word) else {
         return Ok(None);
     };
-    if takes_name(kind) != name.is_some() || !stands_in(kind, text) {
+    if !stands_in(kind, text) || takes_name(kind) != name.is_some() {
         return Ok(None);
     }
     match name {
