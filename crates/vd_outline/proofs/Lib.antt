@@ -1,3 +1,4 @@
+pub mod BodyLaws
 pub mod Cuts
 pub mod HeaderLaws
 pub mod WordLaws

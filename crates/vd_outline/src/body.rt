@@ -15,7 +15,7 @@ pub(crate) fn body_end(bytes: &[u8]) -> Result<usize, usize>
             return Ok(bytes.len() - after.len());
         }
         if !is_line(line) {
-            break;
+            return Err(bytes.len() - rest.len());
         }
         rest = after;
     }
