@@ -1,6 +1,6 @@
 //! Reading the sections of a text, one after another.
 
-ghost use Rattle.std.specs.Prelude.{◌≡◌, ℕ, ◌++◌, IfOk, IsErrOf, OnOk, ◌||◌};
+ghost use Rattle.std.specs.Prelude.{◌≡◌, ℕ, false, ◌++◌, ◌||◌, IfOk, IsErrOf};
 ghost use Rattle.std.specs.Str.{bytes_eq};
 ghost use Rattle.vd_outline.specs.Outline.{Bytes, IsSection, header_line};
 ghost use Rattle.vd_outline.specs.Reading.{AreSections, SectionStops, SectionsStop};
