@@ -37,9 +37,6 @@ line_read bytes rest line after r cut printable other = record {
   };
 }
 
-pub counted : (bytes front rest : Bytes) → bytes ≡ front ++ rest → length bytes - length rest ≡ length front
-counted bytes front rest e = let l : length bytes ≡ length front + length rest = ap length e ∙ length-append front rest in omega arith
-
 pub ended : (bytes rest line after : Bytes) → HasRead bytes rest → rest ≡ line ++ 10 ∷ after → is_end line ≡ true → Ends bytes (length bytes - length after)
 ended bytes rest line after r cut ends =
     let word : line ≡ codes "end" = (bytes_eq-Decides line (codes "end")).0 ends in
@@ -53,16 +50,16 @@ ended bytes rest line after r cut ends =
       counted = omega arith;
     }
 
-pub stopped_unended : (bytes rest : Bytes) → HasRead bytes rest → lacks 10 rest ≡ true → Stops bytes (length bytes - length rest)
-stopped_unended bytes rest r one = record { lines = r.lines; rest = rest; inner = r.inner; bad = inl one; counted = counted bytes (joined r.lines) rest r.inner.cut }
+pub stopped_unended : (bytes rest : Bytes) → HasRead bytes rest → lacks 10 rest ≡ true → Stops bytes (length rest)
+stopped_unended bytes rest r one = record { lines = r.lines; rest = rest; inner = r.inner; bad = inl one; counted = refl }
 
-pub stopped_badly : (bytes rest line after : Bytes) → HasRead bytes rest → rest ≡ line ++ 10 ∷ after → lacks 10 line ≡ true → is_line line ≡ false → Stops bytes (length bytes - length rest)
+pub stopped_badly : (bytes rest line after : Bytes) → HasRead bytes rest → rest ≡ line ++ 10 ∷ after → lacks 10 line ≡ true → is_line line ≡ false → Stops bytes (length rest)
 stopped_badly bytes rest line after r cut one bad = record {
   lines = r.lines;
   rest = rest;
   inner = r.inner;
   bad = inr (record { line = line; rest = after; cut = cut; one = one; unprintable = bad });
-  counted = counted bytes (joined r.lines) rest r.inner.cut;
+  counted = refl;
 }
 
 pub shorter : (rest line after : Bytes) → rest ≡ line ++ 10 ∷ after → length after + 1 ≤ length rest
@@ -102,10 +99,10 @@ goes_on bytes (l ∷ read) rest (m ∷ lines) after r b =
     let one : lacks 10 l ≡ true = lacks-line l (and-true-left (is_line l) (list_all is_line read) r.printable) in
     let two : lacks 10 m ≡ true = lacks-line m (and-true-left (is_line m) (list_all is_line lines) b.printable) in
     let both = cut_unique 10 l (joined read ++ rest) m (joined lines ++ (codes "end" ++ 10 ∷ after)) one two
-        (sym (append_assoc l (10 ∷ joined read) rest) ∙ e ∙ append_assoc m (10 ∷ joined lines) (codes "end" ++ 10 ∷ after)) in
+    (sym (append_assoc l (10 ∷ joined read) rest) ∙ e ∙ append_assoc m (10 ∷ joined lines) (codes "end" ++ 10 ∷ after)) in
     let ih : GoesOn (joined read ++ rest) read rest lines after = goes_on (joined read ++ rest) read rest lines after
-        (record { cut = refl; printable = and-true-right (is_line l) (list_all is_line read) r.printable; inside = and-true-right (not (is_end l)) (list_all (λ y. not (is_end y)) read) r.inside })
-        (record { cut = both.1; printable = and-true-right (is_line m) (list_all is_line lines) b.printable; inside = and-true-right (not (is_end m)) (list_all (λ y. not (is_end y)) lines) b.inside }) in
+    (record { cut = refl; printable = and-true-right (is_line l) (list_all is_line read) r.printable; inside = and-true-right (not (is_end l)) (list_all (λ y. not (is_end y)) read) r.inside })
+    (record { cut = both.1; printable = and-true-right (is_line m) (list_all is_line lines) b.printable; inside = and-true-right (not (is_end m)) (list_all (λ y. not (is_end y)) lines) b.inside }) in
     let heads : l ≡ m = both.0 in
     record { more = ih.more; are = ap (λ x. x ∷ lines) (sym heads) ∙ ap (λ x. l ∷ x) ih.are; cut = ih.cut; printable = ih.printable; inside = ih.inside }
 

@@ -6,7 +6,7 @@ use Rattle.vd_outline.specs.declared.section.SectionKind.{SectionKind}
 use Rattle.vd_outline.specs.Lines.{lacks, joined}
 use Rattle.vd_outline.specs.Outline.{Bytes, header_line, IsSection}
 use Rattle.vd_outline.specs.Reading.{IsHeader, Ends, Stops, StopsInside, SectionStops}
-use Rattle.vd_outline.proofs.BodyLaws.{joined-append, counted}
+use Rattle.vd_outline.proofs.BodyLaws.{joined-append}
 
 -- the bytes up to the line `end`, that line included, and what follows
 pub ends_cut : (bytes : Bytes) (count : ℕ) (e : Ends bytes count) → (bytes ≡ joined (e.lines ++ codes "end" ∷ []) ++ e.rest) × (count ≡ length (joined (e.lines ++ codes "end" ∷ [])))
@@ -34,8 +34,7 @@ section_read text bytes line lines kind name body whole cut header e taken =
       stands = header.stands;
     }
 
-pub stopped_inside : (text : TextKind) (seen : Bytes → Bool) (bytes line lines : Bytes) (kind : SectionKind) (name : Option Bytes) (body : ℕ)
-    → bytes ≡ line ++ 10 ∷ lines → IsHeader text line kind name → seen line ≡ false → Stops lines body → SectionStops text seen bytes (length bytes - length lines + body)
-stopped_inside text seen bytes line lines kind name body cut header new stops =
-    let long : length bytes ≡ length line + length (10 ∷ lines) = ap length cut ∙ length-append line (10 ∷ lines) in
-    inr (inr (record { line = line; rest = lines; section = kind; name = name; body = body; cut = cut; header = header; is_new = new; stops = stops; at = omega arith }))
+pub stopped_inside : (text : TextKind) (seen : Bytes → Bool) (bytes line lines : Bytes) (kind : SectionKind) (name : Option Bytes) (left : ℕ)
+    → bytes ≡ line ++ 10 ∷ lines → IsHeader text line kind name → seen line ≡ false → Stops lines left → SectionStops text seen bytes left
+stopped_inside text seen bytes line lines kind name left cut header new stops =
+    inr (inr (record { line = line; rest = lines; section = kind; name = name; cut = cut; header = header; is_new = new; stops = stops }))

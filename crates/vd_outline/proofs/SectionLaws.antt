@@ -1,5 +1,5 @@
 -- Sections are read in one way.
-use Rattle.std.proofs.Common.{◌≡◌, ◌⊎◌, ℕ, ◌+◌, Bool, true, false, not, ◌||◌, List, [], ◌∷◌, ◌++◌, length, flat_map, codes, Option, None, Some, refl, ap, sym, ◌∙◌, subst, append_assoc, append-nil, length-append, arith, inl, inr}
+use Rattle.std.proofs.Common.{◌≡◌, ◌⊎◌, ℕ, ◌+◌, ◌≤◌, Bool, true, false, not, ◌||◌, List, [], ◌∷◌, ◌++◌, length, flat_map, codes, Option, None, Some, refl, ap, sym, ◌∙◌, subst, append_assoc, append-nil, length-append, arith, inl, inr}
 use Rattle.std.specs.Prelude.{All}
 use Rattle.std.specs.List.{list_all, list_any}
 use Rattle.std.specs.Str.{bytes_eq}
@@ -47,7 +47,7 @@ module _ (text : TextKind) where
   text_cut s i more =
       let header = header_line s.kind s.name in
       let inside : joined (i.lines ++ codes "end" ∷ []) ++ more ≡ behind_header s i more =
-          ap (λ x. x ++ more) (joined-append i.lines (codes "end" ∷ [])) ∙ append_assoc (joined i.lines) (codes "end" ++ 10 ∷ []) more in
+      ap (λ x. x ++ more) (joined-append i.lines (codes "end" ∷ [])) ∙ append_assoc (joined i.lines) (codes "end" ++ 10 ∷ []) more in
       ap (λ x. x ++ more) i.bytes ∙ append_assoc header (10 ∷ joined (i.lines ++ codes "end" ∷ [])) more ∙ ap (λ x. header ++ 10 ∷ x) inside
 
   pub inner_of : (s : Section) (i : IsSection text s) (more bytes : Bytes) → bytes ≡ behind_header s i more → HasInner bytes i.lines (codes "end" ++ 10 ∷ more)
@@ -67,16 +67,20 @@ module _ (text : TextKind) where
       let names : s.name ≡ t.name = same.1 in
       let bodies = body_unique (behind_header s i more) i.lines j.lines more more' (inner_of s i more (behind_header s i more) refl) (inner_of t j more' (behind_header s i more) heads.1) in
       let texts : s.text ≡ t.text = i.bytes ∙ ap (λ x. joined (x ∷ (i.lines ++ codes "end" ∷ []))) heads.0
-          ∙ ap (λ x. joined (header_line t.kind t.name ∷ (x ++ codes "end" ∷ []))) bodies.0 ∙ sym j.bytes in
+      ∙ ap (λ x. joined (header_line t.kind t.name ∷ (x ++ codes "end" ∷ []))) bodies.0 ∙ sym j.bytes in
       (same_section s t kinds names texts, bodies.1)
 
   -- a section is not empty
+  pub section_long : (s : Section) → IsSection text s → 1 ≤ length s.text
+  section_long s i =
+      let long : length s.text ≡ length (header_line s.kind s.name) + length (10 ∷ joined (i.lines ++ codes "end" ∷ [])) =
+      ap length i.bytes ∙ length-append (header_line s.kind s.name) (10 ∷ joined (i.lines ++ codes "end" ∷ [])) in
+      omega arith
+
   pub some_text : (s : Section) (more : Bytes) → IsSection text s → s.text ++ more ≡ [] → ⊥
   some_text s more i e =
-      let whole : header_line s.kind s.name ++ 10 ∷ behind_header s i more ≡ [] = sym (text_cut s i more) ∙ e in
-      let long = ap length whole in
-      let sum = length-append (header_line s.kind s.name) (10 ∷ behind_header s i more) in
-      omega arith
+      let none : length s.text + length more ≡ 0 = sym (length-append s.text more) ∙ ap length e in
+      omega (arith, section_long s i)
 
   pub first_sections : (ss ts : List Section) (rest : Bytes) → All (IsSection text) ss → All (IsSection text) ts → bytes_of ss ++ rest ≡ bytes_of ts → HasFirst ss ts rest
   first_sections [] ts rest a b e = record { others = ts; are = refl; cut = e }

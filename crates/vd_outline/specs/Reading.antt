@@ -41,13 +41,13 @@ pub record BeginsBadly (bytes : Bytes) : Type 0 where
   pub one : lacks 10 line ≡ true
   pub unprintable : is_line line ≡ false
 
--- after so many bytes comes no line that may stand within a section
-pub record Stops (bytes : Bytes) (count : ℕ) : Type 0 where
+-- where so many bytes are left, no line follows that may stand within a section
+pub record Stops (bytes : Bytes) (left : ℕ) : Type 0 where
   pub lines : List Bytes
   pub rest : Bytes
   pub inner : HasInner bytes lines rest
   pub bad : (lacks 10 rest ≡ true) ⊎ BeginsBadly rest
-  pub counted : count ≡ length (joined lines)
+  pub counted : left ≡ length rest
 
 -- the first line is no header line that may stand behind those that were seen
 pub record StopsAtHeader (kind : TextKind) (seen : Bytes → Bool) (bytes : Bytes) : Type 0 where
@@ -58,22 +58,20 @@ pub record StopsAtHeader (kind : TextKind) (seen : Bytes → Bool) (bytes : Byte
   pub bad : (section : SectionKind) (name : Option Bytes) → IsHeader kind line section name → seen line ≡ true
 
 -- behind a header line that may stand comes no line that may stand
-pub record StopsInside (kind : TextKind) (seen : Bytes → Bool) (bytes : Bytes) (place : ℕ) : Type 0 where
+pub record StopsInside (kind : TextKind) (seen : Bytes → Bool) (bytes : Bytes) (left : ℕ) : Type 0 where
   pub line : Bytes
   pub rest : Bytes
   pub section : SectionKind
   pub name : Option Bytes
-  pub body : ℕ
   pub cut : bytes ≡ line ++ 10 ∷ rest
   pub header : IsHeader kind line section name
   pub is_new : seen line ≡ false
-  pub stops : Stops rest body
-  pub at : place ≡ length line + 1 + body
+  pub stops : Stops rest left
 
--- the bytes begin with no section; this many of them may stand
+-- the bytes begin with no section; where so many are left, no line follows that may stand
 abbrev pub SectionStops : TextKind → (Bytes → Bool) → Bytes → ℕ → Type 0
-SectionStops kind seen bytes place = ((lacks 10 bytes ≡ true) × (place ≡ 0))
-    ⊎ ((StopsAtHeader kind seen bytes × (place ≡ 0)) ⊎ StopsInside kind seen bytes place)
+SectionStops kind seen bytes left = ((lacks 10 bytes ≡ true) × (left ≡ length bytes))
+    ⊎ ((StopsAtHeader kind seen bytes × (left ≡ length bytes)) ⊎ StopsInside kind seen bytes left)
 
 -- whether the header line of one of these sections is this line
 abbrev pub has_header : List Section → Bytes → Bool
@@ -86,14 +84,12 @@ pub record AreSections (kind : TextKind) (bytes : Bytes) (sections : List Sectio
   pub once : AreOnce sections
   pub units : HasUnits kind sections
 
--- the bytes begin with these sections, and no section may follow
-pub record SectionsStop (kind : TextKind) (bytes : Bytes) (place : ℕ) : Type 0 where
+-- the bytes begin with sections behind which no other follows; where so many are left, no line follows that may stand
+pub record SectionsStop (kind : TextKind) (bytes : Bytes) (left : ℕ) : Type 0 where
   pub sections : List Section
   pub rest : Bytes
   pub cut : bytes ≡ flat_map (λ s. s.text) sections ++ rest
   pub each : All (IsSection kind) sections
   pub once : AreOnce sections
-  pub inside : ℕ
-  pub stops : ((rest ≡ [] → ⊥) × SectionStops kind (has_header sections) rest inside)
-      ⊎ ((rest ≡ []) × (kind ≡ Link) × (sections ≡ []) × (inside ≡ 0))
-  pub at : place ≡ length (flat_map (λ s. s.text) sections) + inside
+  pub stops : ((rest ≡ [] → ⊥) × SectionStops kind (has_header sections) rest left)
+      ⊎ ((rest ≡ []) × (kind ≡ Link) × (sections ≡ []) × (left ≡ 0))

@@ -5,7 +5,7 @@ ghost use Rattle.vd_outline.specs.Reading.{Ends, Stops};
 
 use crate::line::{cut_at, is, is_line};
 
-/// How many bytes there are up to the line `end`, that line included; else how many before the first line that cannot stand.
+/// How many bytes there are up to the line `end`, that line included; else how many are left where no line follows that may stand.
 pub(crate) fn body_end(bytes: &[u8]) -> Result<usize, usize>
     ensures { MatchResult result (Ends bytes.now) (Stops bytes.now) }
 {
@@ -15,9 +15,9 @@ pub(crate) fn body_end(bytes: &[u8]) -> Result<usize, usize>
             return Ok(bytes.len() - after.len());
         }
         if !is_line(line) {
-            return Err(bytes.len() - rest.len());
+            return Err(rest.len());
         }
         rest = after;
     }
-    Err(bytes.len() - rest.len())
+    Err(rest.len())
 }

@@ -71,8 +71,8 @@ pub fn outline_of(alloc: Global, text: &Text) -> Result<Outline, OutlineFault>
             name,
             sections,
         }),
-        Err(SectionFault::Bad(place)) => {
-            let place = bytes.len() - rest.len() + place;
+        Err(SectionFault::Bad(left)) => {
+            let place = bytes.len() - left;
             Err(OutlineFault::Bad(u32::try_from(place).unwrap_or(u32::MAX)))
         }
         Err(SectionFault::Memory(fault)) => Err(OutlineFault::Memory(fault)),

@@ -18,7 +18,7 @@ use vd_base::{List, Text};
 /// Why sections are not read.
 #[derive(Drop)]
 pub(crate) enum SectionFault {
-    /// So many bytes stand before the first line that cannot stand, or before the end where lines are missing.
+    /// Where so many bytes are left, no line follows that may stand there.
     Bad(usize),
     Memory(AllocError),
 }
@@ -34,23 +34,22 @@ fn read_section<'a>(
     ensures bytes { IfOk result (λ read. bytes.now ≡ read.0.text ++ read.1.now) }
     ensures is_new { IfOk result (λ read. has seen.old (header_line read.0.kind read.0.name) ≡ false) }
     ensures seen { IfOk result (λ read. (line : Bytes) → has seen.new line ≡ (bytes_eq (header_line read.0.kind read.0.name) line || has seen.old line)) }
-    ensures bad { (place : ℕ) → IsErrOf result (SectionFault.Bad place) → SectionStops kind (has seen.old) bytes.now place }
+    ensures bad { (left : ℕ) → IsErrOf result (SectionFault.Bad left) → SectionStops kind (has seen.old) bytes.now left }
 {
     let Some((line, lines)) = cut_at(bytes, b'\n') else {
-        return Err(SectionFault::Bad(0));
+        return Err(SectionFault::Bad(bytes.len()));
     };
     let Some((section_kind, name)) = header_of(alloc, kind, line).map_err(SectionFault::Memory)?
     else {
-        return Err(SectionFault::Bad(0));
+        return Err(SectionFault::Bad(bytes.len()));
     };
     let is_new = seen.add(line).map_err(SectionFault::Memory)?;
     if !is_new {
-        return Err(SectionFault::Bad(0));
+        return Err(SectionFault::Bad(bytes.len()));
     }
-    let header = bytes.len() - lines.len();
     match body_end(lines) {
         Ok(body) => {
-            let (text, rest) = bytes.split_at(header + body);
+            let (text, rest) = bytes.split_at(bytes.len() - lines.len() + body);
             let text = Text::new(alloc, text).map_err(SectionFault::Memory)?;
             let section = Section {
                 kind: section_kind,
@@ -59,7 +58,7 @@ fn read_section<'a>(
             };
             Ok((section, rest))
         }
-        Err(body) => Err(SectionFault::Bad(header + body)),
+        Err(left) => Err(SectionFault::Bad(left)),
     }
 }
 
@@ -70,25 +69,18 @@ pub(crate) fn read_sections(
     bytes: &[u8],
 ) -> Result<List<Section>, SectionFault>
     ensures sections { IfOk result (λ sections. AreSections kind bytes.now sections) }
-    ensures bad { (place : ℕ) → IsErrOf result (SectionFault.Bad place) → SectionsStop kind bytes.now place }
+    ensures bad { (left : ℕ) → IsErrOf result (SectionFault.Bad left) → SectionsStop kind bytes.now left }
 {
     let mut sections = List::new(alloc);
     let mut seen = Seen::new(alloc);
     let mut rest = bytes;
     while !rest.is_empty() {
-        match read_section(alloc, kind, &mut seen, rest) {
-            Ok((section, after)) => {
-                sections.push(section).map_err(SectionFault::Memory)?;
-                rest = after;
-            }
-            Err(SectionFault::Bad(place)) => {
-                return Err(SectionFault::Bad(bytes.len() - rest.len() + place));
-            }
-            Err(SectionFault::Memory(fault)) => return Err(SectionFault::Memory(fault)),
-        }
+        let (section, after) = read_section(alloc, kind, &mut seen, rest)?;
+        sections.push(section).map_err(SectionFault::Memory)?;
+        rest = after;
     }
     if kind == TextKind::Link && sections.is_empty() {
-        return Err(SectionFault::Bad(bytes.len()));
+        return Err(SectionFault::Bad(0));
     }
     Ok(sections)
 }

@@ -15,7 +15,7 @@ returns-in_default c = λ kind name.
 pub returns-then-not-stands_in : goal.returns-then-not-stands_in
 returns-then-not-stands_in c = λ kind name.
     let headed : IsHeaded c.args.line.now c.split_word.result.0.now c.in-Some.kind (option_copied c.split_word.result.1) =
-        record { split = c.split_word.ensures; known = sym c.section_kind_of.ensures ∙ c.in-Some.is } in
+    record { split = c.split_word.ensures; known = sym c.section_kind_of.ensures ∙ c.in-Some.is } in
     elim c.then-not-stands_in.branch [
       | then-not-stands_in-via-then-not-stands_in w ↦
           not_standing c.args.line.now _ c.in-Some.kind _ c.args.text kind name headed (sym c.stands_in.ensures ∙ w.if-not-stands_in.true)
@@ -29,6 +29,6 @@ returns-in-None-2 c = λ kind name.
     let name_is : option_copied c.split_word.result.1 ≡ Some c.in-Some-name.bytes.now = ap option_copied c.in-Some-name.is in
     let split : IsSplit c.args.line.now c.split_word.result.0.now (Some c.in-Some-name.bytes.now) = rw name_is at c.split_word.ensures in
     let headed : IsHeaded c.args.line.now c.split_word.result.0.now c.in-Some.kind (Some c.in-Some-name.bytes.now) =
-        record { split = split; known = sym c.section_kind_of.ensures ∙ c.in-Some.is } in
+    record { split = split; known = sym c.section_kind_of.ensures ∙ c.in-Some.is } in
     let none : is_name c.in-Some-name.bytes.now ≡ false = rw c.in-None-2.is at c.in_ok-name-in-Some-name.ensures in
     not_name c.args.line.now _ _ c.in-Some.kind c.args.text kind name headed none
