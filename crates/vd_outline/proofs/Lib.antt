@@ -2,6 +2,7 @@ pub mod Beginnings
 pub mod BodyLaws
 pub mod Cuts
 pub mod Ends
+pub mod FaultLaws
 pub mod HeaderLaws
 pub mod LinkLaws
 pub mod ReadLaws

@@ -1,6 +1,6 @@
 //! The outline of a whole text.
 
-ghost use Rattle.std.specs.Prelude.{◌≡◌, ℕ, IfOk, IsErrOf, MatchOption};
+ghost use Rattle.std.specs.Prelude.{◌≡◌, ◌≤◌, ℕ, ◌-◌, ◌^◌, min, IfOk, IsErrOf, MatchOption};
 ghost use Rattle.vd_outline.specs.declared.outline.Outline.{Outline as Outlined};
 ghost use Rattle.vd_outline.specs.declared.outline.TextKind.{TextKind as Kind_of_text};
 ghost use Rattle.vd_outline.specs.Fault.{IsBad};
@@ -53,6 +53,20 @@ pub fn head_of(alloc: Global, text: &Text) -> Result<Option<(TextKind, Name)>, A
     }
 }
 
+/// The fault of a text of so many bytes whose sections are not read.
+fn fault_of(length: usize, fault: SectionFault) -> OutlineFault
+    requires { (left : ℕ) → fault ≡ SectionFault.Bad left → left ≤ length }
+    ensures head { result ≡ OutlineFault.NoHead → ⊥ }
+    ensures bad { (place : ℕ) → result ≡ OutlineFault.Bad place → (left : ℕ) × (fault ≡ SectionFault.Bad left) × (place ≡ min (length - left) (2 ^ 32 - 1)) }
+{
+    match fault {
+        SectionFault::Bad(left) => {
+            OutlineFault::Bad(u32::try_from(length - left).unwrap_or(u32::MAX))
+        }
+        SectionFault::Memory(fault) => OutlineFault::Memory(fault),
+    }
+}
+
 /// The outline of a text.
 pub fn outline_of(alloc: Global, text: &Text) -> Result<Outline, OutlineFault>
     ensures ok { IfOk result (λ o. Outlines text.now o) }
@@ -71,10 +85,6 @@ pub fn outline_of(alloc: Global, text: &Text) -> Result<Outline, OutlineFault>
             name,
             sections,
         }),
-        Err(SectionFault::Bad(left)) => {
-            let place = bytes.len() - left;
-            Err(OutlineFault::Bad(u32::try_from(place).unwrap_or(u32::MAX)))
-        }
-        Err(SectionFault::Memory(fault)) => Err(OutlineFault::Memory(fault)),
+        Err(fault) => Err(fault_of(bytes.len(), fault)),
     }
 }
