@@ -43,7 +43,7 @@ next_of kind (s ∷ us) line rest each one e =
     record { s = s; us = us; are = refl; is = i; header = both.0; body = both.1 }
 
 -- sections without bytes are none
-no_bytes : (kind : TextKind) (others : List Section) → All (IsSection kind) others → bytes_of others ≡ [] → others ≡ []
+pub no_bytes : (kind : TextKind) (others : List Section) → All (IsSection kind) others → bytes_of others ≡ [] → others ≡ []
 no_bytes kind [] each e = refl
 no_bytes kind (s ∷ us) each e = absurd (some_text kind s (bytes_of us) (All-head (IsSection kind) s us each) e)
 

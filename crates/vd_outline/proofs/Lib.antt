@@ -8,4 +8,5 @@ pub mod LinkLaws
 pub mod ReadLaws
 pub mod SectionLaws
 pub mod SectionsLaws
+pub mod TextLaws
 pub mod WordLaws
