@@ -3,8 +3,10 @@ use Rattle.std.proofs.Common.{◌≡◌, ◌⊎◌, ℕ, ◌+◌, ◌-◌, ◌�
 use Rattle.vd_base.specs.Name.{is_name}
 use Rattle.vd_outline.specs.declared.outline.Outline.{Outline}
 use Rattle.vd_outline.specs.declared.outline.TextKind.{TextKind}
+use Rattle.vd_outline.specs.declared.reading.SectionFault.{SectionFault}
+use Rattle.vd_outline.specs.declared.reading.SectionFault.TheVariants.{Bad}
 use Rattle.vd_outline.specs.declared.section.Section.{Section}
-use Rattle.vd_outline.specs.Fault.{MayBegin, StandsSoFar, IsMisplaced, IsUnended, IsUnfinished, IsBadAt}
+use Rattle.vd_outline.specs.Fault.{MayBegin, StandsSoFar, IsMisplaced, IsUnended, IsUnfinished, IsBadAt, IsBad}
 use Rattle.vd_outline.specs.Lines.{lacks, joined}
 use Rattle.vd_outline.specs.Outline.{Bytes, head_line, HasHead, Outlines}
 use Rattle.vd_outline.specs.Reading.{AreSections, SectionStops, SectionsStop, has_header}
@@ -13,7 +15,7 @@ use Rattle.vd_outline.proofs.WordLaws.{lacks-head_line, head_line_unique}
 use Rattle.vd_outline.proofs.SectionLaws.{bytes_of}
 use Rattle.vd_outline.proofs.Beginnings.{front_of, HasBegun, begun}
 use Rattle.vd_outline.proofs.Ends.{IsWhole, whole-bytes_of, whole_end, not_whole, has_line, reaches, stays}
-use Rattle.vd_outline.proofs.FaultLaws.{no_bytes}
+use Rattle.vd_outline.proofs.FaultLaws.{no_bytes, sections_bad}
 
 -- ---- one head and one outline
 
@@ -146,3 +148,9 @@ sections_within kind bytes left line text cut s =
 
 pub outlines : (text : Bytes) (kind : TextKind) (name bytes : Bytes) (ss : List Section) → text ≡ head_line kind name ++ 10 ∷ bytes → is_name name ≡ true → AreSections kind bytes ss → Outlines text (record { kind = kind; name = name; sections = ss })
 outlines text kind name bytes ss cut named s = record { named = named; bytes = cut ∙ ap (λ x. head_line kind name ++ 10 ∷ x) s.cut; sections = s.each; once = s.once; units = s.units }
+
+-- a text whose sections are not read is bad, at the place that is told
+pub told_bad : (text slice : Bytes) (kind : TextKind) (name bytes : Bytes) (fault : SectionFault) (told : ℕ) → slice ≡ text → text ≡ head_line kind name ++ 10 ∷ bytes → is_name name ≡ true
+    → ((left : ℕ) → fault ≡ Bad left → SectionsStop kind bytes left) → (left : ℕ) × (fault ≡ Bad left) × (told ≡ min (length slice - left) (2 ^ 32 - 1)) → IsBad text told
+told_bad text slice kind name bytes fault told same cut named stop at =
+    (length text - at.0, at.2 ∙ ap (λ x. min (length x - at.0) (2 ^ 32 - 1)) same, sections_bad text kind name bytes at.0 cut named (stop at.0 at.1))

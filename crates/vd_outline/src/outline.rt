@@ -76,8 +76,10 @@ pub fn outline_of(alloc: Global, text: &Text) -> Result<Outline, OutlineFault>
     ensures none { (place : ℕ) → IsErrOf result (OutlineFault.Bad place) → (o : Outlined) → Outlines text.now o → ⊥ }
 {
     let bytes = text.as_bytes();
-    let Some((kind, name, rest)) = cut_head(alloc, bytes).map_err(OutlineFault::Memory)? else {
-        return Err(OutlineFault::NoHead);
+    let (kind, name, rest) = match cut_head(alloc, bytes) {
+        Ok(Some(head)) => head,
+        Ok(None) => return Err(OutlineFault::NoHead),
+        Err(fault) => return Err(OutlineFault::Memory(fault)),
     };
     match read_sections(alloc, kind, rest) {
         Ok(sections) => Ok(Outline {
