@@ -2,11 +2,14 @@
 use Rattle.std.proofs.Common.{◌≡◌, ◌⊎◌, ℕ, ◌+◌, ◌-◌, ◌≤◌, ◌<◌, ◌^◌, min, Bool, true, false, List, [], ◌∷◌, ◌++◌, length, refl, ap, sym, ◌∙◌, subst, append_assoc, append-nil, length-append, arith, inl, inr}
 use Rattle.vd_base.specs.Name.{is_name}
 use Rattle.vd_outline.specs.declared.outline.Outline.{Outline}
+use Rattle.vd_outline.specs.declared.outline.OutlineFault.{OutlineFault}
+use Rattle.vd_outline.specs.declared.outline.OutlineFault.TheVariants.{NoHead}
+use Rattle.vd_outline.specs.declared.outline.OutlineFault.TheVariants as outline
 use Rattle.vd_outline.specs.declared.outline.TextKind.{TextKind}
 use Rattle.vd_outline.specs.declared.reading.SectionFault.{SectionFault}
 use Rattle.vd_outline.specs.declared.reading.SectionFault.TheVariants.{Bad}
 use Rattle.vd_outline.specs.declared.section.Section.{Section}
-use Rattle.vd_outline.specs.Fault.{MayBegin, StandsSoFar, IsMisplaced, IsUnended, IsUnfinished, IsBadAt, IsBad}
+use Rattle.vd_outline.specs.Fault.{MayBegin, StandsSoFar, IsMisplaced, IsUnended, IsUnfinished, IsBadAt, IsBad, IsMemory}
 use Rattle.vd_outline.specs.Lines.{lacks, joined}
 use Rattle.vd_outline.specs.Outline.{Bytes, head_line, HasHead, Outlines}
 use Rattle.vd_outline.specs.Reading.{AreSections, SectionStops, SectionsStop, has_header}
@@ -146,6 +149,10 @@ sections_within kind bytes left line text cut s =
       | inr at ↦ omega (arith, at.3)
     ]
 
+-- a text with an outline has a head line
+pub head_of_outline : (text : Bytes) (o : Outline) → Outlines text o → HasHead text o.kind o.name
+head_of_outline text o h = record { rest = bytes_of o.sections; cut = h.bytes; named = h.named }
+
 pub outlines : (text : Bytes) (kind : TextKind) (name bytes : Bytes) (ss : List Section) → text ≡ head_line kind name ++ 10 ∷ bytes → is_name name ≡ true → AreSections kind bytes ss → Outlines text (record { kind = kind; name = name; sections = ss })
 outlines text kind name bytes ss cut named s = record { named = named; bytes = cut ∙ ap (λ x. head_line kind name ++ 10 ∷ x) s.cut; sections = s.each; once = s.once; units = s.units }
 
@@ -154,3 +161,17 @@ pub told_bad : (text slice : Bytes) (kind : TextKind) (name bytes : Bytes) (faul
     → ((left : ℕ) → fault ≡ Bad left → SectionsStop kind bytes left) → (left : ℕ) × (fault ≡ Bad left) × (told ≡ min (length slice - left) (2 ^ 32 - 1)) → IsBad text told
 told_bad text slice kind name bytes fault told same cut named stop at =
     (length text - at.0, at.2 ∙ ap (λ x. min (length x - at.0) (2 ^ 32 - 1)) same, sections_bad text kind name bytes at.0 cut named (stop at.0 at.1))
+
+memory_left : (fault : OutlineFault) → (fault ≡ NoHead → ⊥) → ((place : ℕ) → fault ≡ outline.Bad place → ⊥) → IsMemory fault
+memory_left NoHead head bad = head refl
+memory_left (outline.Bad place) head bad = bad place refl
+memory_left (outline.Memory fault) head bad = tt
+
+-- where a text has an outline, its sections are not read for want of memory alone
+pub told_memory : (text slice : Bytes) (kind : TextKind) (name bytes : Bytes) (fault : SectionFault) (told : OutlineFault) (o : Outline) → slice ≡ text → text ≡ head_line kind name ++ 10 ∷ bytes → is_name name ≡ true
+    → ((left : ℕ) → fault ≡ Bad left → SectionsStop kind bytes left) → (told ≡ NoHead → ⊥)
+    → ((place : ℕ) → told ≡ outline.Bad place → (left : ℕ) × (fault ≡ Bad left) × (place ≡ min (length slice - left) (2 ^ 32 - 1))) → Outlines text o → IsMemory told
+told_memory text slice kind name bytes fault told o same cut named stop head at whole =
+    memory_left told head (λ place e.
+    let bad : IsBad text place = told_bad text slice kind name bytes fault place same cut named stop (at place e) in
+    (no_outline text bad.0 o bad.2 whole))

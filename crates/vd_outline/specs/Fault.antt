@@ -1,8 +1,16 @@
 -- Where a text stops being an outline.
 use Rattle.std.specs.Prelude.{◌≡◌, ◌⊎◌, ℕ, ◌^◌, ◌-◌, true, List, [], ◌∷◌, ◌++◌, length, min}
 use Rattle.vd_outline.specs.declared.outline.Outline.{Outline}
+use Rattle.vd_outline.specs.declared.outline.OutlineFault.{OutlineFault}
+use Rattle.vd_outline.specs.declared.outline.OutlineFault.TheVariants.{NoHead, Bad, Memory}
 use Rattle.vd_outline.specs.Lines.{lacks}
 use Rattle.vd_outline.specs.Outline.{Bytes, Outlines}
+
+-- memory was wanting, which says nothing of the text
+abbrev pub IsMemory : OutlineFault → Type 0
+IsMemory NoHead = ⊥
+IsMemory (Bad place) = ⊥
+IsMemory (Memory fault) = Unit {0}
 
 -- some text that begins with these bytes has an outline
 abbrev pub MayBegin : Bytes → Type 0

@@ -1,9 +1,9 @@
 //! The outline of a whole text.
 
-ghost use Rattle.std.specs.Prelude.{◌≡◌, ◌≤◌, ℕ, ◌-◌, ◌^◌, min, IfOk, IsErrOf, MatchOption};
+ghost use Rattle.std.specs.Prelude.{◌≡◌, ◌≤◌, ℕ, ◌-◌, ◌^◌, min, IfOk, IsErrOf, MatchOption, MatchResult};
 ghost use Rattle.vd_outline.specs.declared.outline.Outline.{Outline as Outlined};
 ghost use Rattle.vd_outline.specs.declared.outline.TextKind.{TextKind as Kind_of_text};
-ghost use Rattle.vd_outline.specs.Fault.{IsBad};
+ghost use Rattle.vd_outline.specs.Fault.{IsBad, IsMemory};
 ghost use Rattle.vd_outline.specs.Outline.{Bytes, HasHead, Outlines};
 
 use crate::head::cut_head;
@@ -70,10 +70,9 @@ fn fault_of(length: usize, fault: SectionFault) -> OutlineFault
 /// The outline of a text.
 pub fn outline_of(alloc: Global, text: &Text) -> Result<Outline, OutlineFault>
     ensures ok { IfOk result (λ o. Outlines text.now o) }
-    ensures only { IfOk result (λ o. (other : Outlined) → Outlines text.now other → other ≡ o) }
+    ensures only { (o : Outlined) → Outlines text.now o → MatchResult result (λ found. found ≡ o) IsMemory }
     ensures no_head { IsErrOf result OutlineFault.NoHead → (kind : Kind_of_text) (name : Bytes) → HasHead text.now kind name → ⊥ }
     ensures bad { (place : ℕ) → IsErrOf result (OutlineFault.Bad place) → IsBad text.now place }
-    ensures none { (place : ℕ) → IsErrOf result (OutlineFault.Bad place) → (o : Outlined) → Outlines text.now o → ⊥ }
 {
     let bytes = text.as_bytes();
     let (kind, name, rest) = match cut_head(alloc, bytes) {
