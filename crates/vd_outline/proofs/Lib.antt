@@ -1,0 +1,12 @@
+pub mod Beginnings
+pub mod BodyLaws
+pub mod Cuts
+pub mod Ends
+pub mod FaultLaws
+pub mod HeaderLaws
+pub mod LinkLaws
+pub mod ReadLaws
+pub mod SectionLaws
+pub mod SectionsLaws
+pub mod TextLaws
+pub mod WordLaws

@@ -1,0 +1,12 @@
+//! What follows from the definitions alone.
+
+ghost use Rattle.vd_outline.specs.Laws.{OneHead, OneOutline, OneFault, FaultHasHead, FaultHasNoOutline};
+
+/// Laws for callers that reason about texts: the call does nothing.
+pub fn outline_laws()
+    ensures head { OneHead }
+    ensures outline { OneOutline }
+    ensures fault { OneFault }
+    ensures fault_has_head { FaultHasHead }
+    ensures fault_has_no_outline { FaultHasNoOutline }
+{}
