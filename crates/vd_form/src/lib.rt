@@ -1,0 +1,7 @@
+//! Reads the sections of the first path's form: a function of integer sums, its specification, its script, and a list of
+//! names.
+#![tactic(auto)]
+
+mod sections;
+
+pub use sections::{read_function, read_names, read_script, read_specification};
