@@ -1,0 +1,12 @@
+pub mod Outcome
+pub mod Grammar
+pub mod Reading
+pub mod Reads
+pub mod Whole
+pub mod Tables
+pub mod Checks
+pub mod Descent
+pub mod Fronts
+pub mod Completeness
+pub mod Exact
+pub mod Loops

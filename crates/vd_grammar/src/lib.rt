@@ -1,0 +1,6 @@
+//! The theory of exact readers: what a grammar says is given as a table of rules, and reading by the kind of the next token is proved exact for each grammar that keeps some laws which compute.
+#![tactic(auto)]
+
+mod stop;
+
+pub use stop::Stop;
