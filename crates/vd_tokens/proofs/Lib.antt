@@ -1,0 +1,4 @@
+pub mod Runs
+pub mod Firsts
+pub mod Scanning
+pub mod Numbers

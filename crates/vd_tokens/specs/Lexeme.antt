@@ -1,0 +1,17 @@
+-- A token as plain data.
+use Rattle.std.specs.Prelude.{ℕ, List, map}
+use Rattle.vd_tokens.specs.declared.token.TokenKind.{TokenKind}
+use Rattle.vd_tokens.specs.declared.token.Token.{Token}
+
+pub record Lexeme : Type 0 where
+  pub kind : TokenKind
+  -- where it begins
+  pub place : ℕ
+  -- its bytes
+  pub spelling : List ℕ
+
+abbrev pub lexeme_of : Token → Lexeme
+lexeme_of t = record { kind = t.kind; place = t.place; spelling = t.spelling.now }
+
+abbrev pub lexemes_of : List Token → List Lexeme
+lexemes_of = map lexeme_of
