@@ -2,6 +2,17 @@
 //! names.
 #![tactic(auto)]
 
+mod depth;
+mod expression;
+mod function;
+mod kind;
+mod names;
+mod script;
+mod section;
 mod sections;
+mod signature;
+mod specification;
+mod token;
+mod words;
 
 pub use sections::{read_function, read_names, read_script, read_specification};
