@@ -4,3 +4,4 @@ pub mod Cuts
 pub mod Fitting
 pub mod Passing
 pub mod OneSection
+pub mod Finding

@@ -8,3 +8,4 @@ pub mod Reading
 pub mod Passing
 pub mod Sections
 pub mod Numbering
+pub mod Ending
