@@ -1,0 +1,18 @@
+//! Reads the sections of the first path's form: a function of integer sums, its specification, its script, and a list of
+//! names.
+#![tactic(auto)]
+
+mod depth;
+mod expression;
+mod function;
+mod kind;
+mod names;
+mod script;
+mod section;
+mod sections;
+mod signature;
+mod specification;
+mod token;
+mod words;
+
+pub use sections::{read_function, read_names, read_script, read_specification};
