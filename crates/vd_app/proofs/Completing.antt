@@ -3,14 +3,13 @@ use Rattle.std.proofs.Common.{◌≡◌, inl, inr, ℕ, ◌≤◌, List, length,
 use Rattle.vd_base.specs.Cause.{Rose}
 use Rattle.vd_base.specs.Shelf.{Holding, Absent, Holds}
 use Rattle.vd_app.specs.Answer.{Answer, HasForm, Answers, files_of, written_text}
-use Rattle.vd_app.specs.Call.{IsAnswered, IsOutside, Means, status_of}
+use Rattle.vd_app.specs.Call.{IsAnswered, IsOutside, PassesLimit, file_bytes, Means, status_of}
 use Rattle.vd_app.specs.Command.{Command, Check, Unbuilt, command_of}
 use Rattle.vd_app.specs.Completeness.{AnswersBy, IsComplete}
 use Rattle.vd_app.specs.Reading.{AreHeld, AreRead, IsReached, IsUnreadable, IsTooLong, file_limit}
 use Rattle.vd_app.specs.Seen.{ShelfSeen, SinkSeen}
 use Rattle.vd_app.specs.declared.ending.Ending.{Ending}
 use Rattle.vd_app.specs.declared.ending.Ending.TheVariants as ending
-use Rattle.vd_app.specs.declared.ending.Quantity.TheVariants.{FileBytes}
 use Rattle.vd_app.proofs.ReadLaws.{held_read, held_at}
 
 -- a command is one alone
@@ -44,6 +43,9 @@ never_too_long shelf files texts file reached tells long =
     let here = reached_held shelf.held files texts file reached tells in
     omega (arith, long.longer here.0 here.1, here.2)
 
+never_passes : (shelf : ShelfSeen) (command : Command) (texts : List (List ℕ)) (what : List ℕ) (bound : ℕ) → AreHeld shelf.held (files_of command) texts → PassesLimit command shelf what bound → ⊥
+never_passes shelf command texts what bound tells (file_bytes is reached long) = never_too_long shelf (files_of command) texts what reached tells long
+
 outside_told : (shelf : ShelfSeen) (command : Command) (texts : List (List ℕ)) → IsOutside command shelf → AreHeld shelf.held (files_of command) texts → HasForm command texts → ⊥
 outside_told shelf (Check link files) texts outside tells form =
     let told : texts ≡ outside.0 = held_read shelf.held files texts outside.0 tells outside.1 in
@@ -63,10 +65,10 @@ complete_by (ending.CannotRead file) words shelf out m command texts asked tells
     let reached : IsReached shelf.held (files_of command) file.now = subst (λ (c : Command). IsReached shelf.held (files_of c) file.now) same m.0.reached in
     absurd (never_unreadable shelf (files_of command) texts file.now reached tells kept m.0.cause)
 complete_by ending.CannotWrite words shelf out m command texts asked tells kept wrote = absurd (wrote m.0)
-complete_by (ending.Limit (FileBytes file)) words shelf out m command texts asked tells kept wrote =
+complete_by (ending.Limit what bound) words shelf out m command texts asked tells kept wrote =
     let same : m.0.command ≡ command = same_command words m.0.command command m.0.asked asked in
-    let reached : IsReached shelf.held (files_of command) file.now = subst (λ (c : Command). IsReached shelf.held (files_of c) file.now) same m.0.passes.0 in
-    absurd (never_too_long shelf (files_of command) texts file.now reached tells m.0.passes.1)
+    let passes : PassesLimit command shelf what.now bound = subst (λ (c : Command). PassesLimit c shelf what.now bound) same m.0.passes in
+    absurd (never_passes shelf command texts what.now bound tells passes)
 complete_by ending.Memory words shelf out m command texts asked tells kept wrote = inr (inl refl)
 complete_by ending.Unbuilt words shelf out m command texts asked tells kept wrote =
     let same : m.0.command ≡ command = same_command words m.0.command command m.0.asked asked in

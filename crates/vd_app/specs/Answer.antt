@@ -4,10 +4,9 @@ use Rattle.vd_outline.specs.Lines.{joined}
 use Rattle.vd_check.specs.declared.store.Outcome.{Outcome}
 use Rattle.vd_check.specs.declared.store.Outcome.TheVariants as outcome
 use Rattle.vd_check.specs.Form as form
-use Rattle.vd_check.specs.Form.{Entry}
 use Rattle.vd_check.specs.Scratch.{Scratches}
 use Rattle.vd_app.specs.Command.{Bytes, Command, Check, Unbuilt}
-use Rattle.vd_app.specs.Submission.{Submits}
+use Rattle.vd_app.specs.Submission.{Entries, Submits}
 
 -- whether all went well, and the lines written
 pub record Answer : Type 0 where
@@ -27,13 +26,13 @@ answer_of link outcome.NoLink = record { success = false; lines = (codes "no lin
 -- two texts that make a snapshot of the form that is checked today
 pub record AreCheckable (texts : List Bytes) : Type 0 where
   pub two : length texts ≡ 2
-  pub snapshot : List Entry
+  pub snapshot : Entries
   pub submits : Submits texts snapshot
   pub has_form : form.HasForm snapshot
 
 -- what `check` answers of the texts: the outcome of the snapshot that they make
 pub record Checks (link : Bytes) (texts : List Bytes) (answer : Answer) : Type 0 where
-  pub snapshot : List Entry
+  pub snapshot : Entries
   pub submits : Submits texts snapshot
   pub outcome : Outcome
   pub scratches : Scratches snapshot link outcome

@@ -7,8 +7,6 @@ use Rattle.vd_app.specs.Reading.{AreRead, IsReached, IsUnreadable, IsTooLong, fi
 use Rattle.vd_app.specs.Seen.{ShelfSeen, SinkSeen, IsUnread, IsUntouched, Adds, AddsPrefix}
 use Rattle.vd_app.specs.declared.ending.Ending.{Ending}
 use Rattle.vd_app.specs.declared.ending.Ending.TheVariants as ending
-use Rattle.vd_app.specs.declared.ending.Quantity.{Quantity}
-use Rattle.vd_app.specs.declared.ending.Quantity.TheVariants.{FileBytes}
 
 -- the words are a command, and this is an answer of what its files were read to hold
 pub record IsAnswered (words : List Bytes) (shelf : ShelfSeen) (answer : Answer) : Type 0 where
@@ -38,15 +36,16 @@ pub record ReadFails (words : List Bytes) (shelf : ShelfSeen) (file : Bytes) : T
   pub reached : IsReached shelf.held (files_of command) file
   pub cause : IsUnreadable shelf file
 
--- what passes its limit
-abbrev pub PassesLimit : Quantity → Command → ShelfSeen → Type 0
-PassesLimit (FileBytes file) command shelf = IsReached shelf.held (files_of command) file.now × IsTooLong shelf file.now
+-- what passes which limit, with a case for each limit
+pub data PassesLimit (command : Command) (shelf : ShelfSeen) (what : Bytes) (bound : ℕ) : Type 0 where
+  -- the first file in the order of the words that could not be read, by its bytes
+  file_bytes : bound ≡ file_limit → IsReached shelf.held (files_of command) what → IsTooLong shelf what → PassesLimit command shelf what bound
 
 -- a limit that the command passes
-pub record LimitPassed (words : List Bytes) (shelf : ShelfSeen) (quantity : Quantity) : Type 0 where
+pub record LimitPassed (words : List Bytes) (shelf : ShelfSeen) (what : Bytes) (bound : ℕ) : Type 0 where
   pub command : Command
   pub asked : command_of words ≡ Some command
-  pub passes : PassesLimit quantity command shelf
+  pub passes : PassesLimit command shelf what bound
 
 -- a command that is not built, for which nothing is read, or files outside the form
 abbrev pub IsOutside : Command → ShelfSeen → Type 0
@@ -66,7 +65,7 @@ Means ending.Rejected words shelf out = WritesAnswer words shelf out false
 Means ending.Usage words shelf out = (command_of words ≡ None) × IsUnread shelf × IsUntouched out
 Means (ending.CannotRead file) words shelf out = ReadFails words shelf file.now × IsUntouched out
 Means ending.CannotWrite words shelf out = Rose out.faults out.faults_after × WritesPrefix words shelf out
-Means (ending.Limit quantity) words shelf out = LimitPassed words shelf quantity × IsUntouched out
+Means (ending.Limit what bound) words shelf out = LimitPassed words shelf what.now bound × IsUntouched out
 Means ending.Memory words shelf out = IsUntouched out ⊎ WritesPrefix words shelf out
 Means ending.Unbuilt words shelf out = IsNotBuilt words shelf × IsUntouched out
 
@@ -77,13 +76,9 @@ status_of ending.Rejected = 1
 status_of ending.Usage = 2
 status_of (ending.CannotRead file) = 3
 status_of ending.CannotWrite = 4
-status_of (ending.Limit quantity) = 6
+status_of (ending.Limit what bound) = 6
 status_of ending.Memory = 7
 status_of ending.Unbuilt = 8
-
--- the name of what passes a limit, and the limit
-abbrev pub quantity_text : Quantity → Bytes
-quantity_text (FileBytes file) = file.now ++ (32 ∷ decimal file_limit)
 
 -- the line that each ending has on the error stream
 abbrev pub error_line : Ending → Option Bytes
@@ -92,7 +87,7 @@ error_line ending.Rejected = None
 error_line ending.Usage = Some (codes "desk: usage\n")
 error_line (ending.CannotRead file) = Some (codes "desk: cannot read " ++ (file.now ++ codes "\n"))
 error_line ending.CannotWrite = Some (codes "desk: cannot write\n")
-error_line (ending.Limit quantity) = Some (codes "desk: limit " ++ (quantity_text quantity ++ codes "\n"))
+error_line (ending.Limit what bound) = Some (codes "desk: limit " ++ (what.now ++ (32 ∷ (decimal bound ++ codes "\n"))))
 error_line ending.Memory = Some (codes "desk: memory\n")
 error_line ending.Unbuilt = Some (codes "desk: unbuilt\n")
 

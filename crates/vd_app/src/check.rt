@@ -6,8 +6,8 @@ ghost use Rattle.vd_app.specs.Call.{Means};
 ghost use Rattle.vd_app.specs.Seen.{SinkSeen};
 ghost use Rattle.vd_app.specs.Steps.{Writes, Finishes};
 
-use crate::ending::{Ending, Quantity};
-use crate::files::{ReadFault, read_files};
+use crate::ending::Ending;
+use crate::files::{FILE_LIMIT, ReadFault, read_files};
 use crate::output::{put_line, put_lines};
 use crate::submission::submitted;
 use std::alloc::{AllocError, Global};
@@ -108,7 +108,7 @@ pub fn check<'a, H: Shelf, K: Sink>(
     let texts = match read_files(alloc, files, shelf) {
         Ok(texts) => texts,
         Err(ReadFault::CannotRead(file)) => return Ending::CannotRead(file),
-        Err(ReadFault::TooLong(file)) => return Ending::Limit(Quantity::FileBytes(file)),
+        Err(ReadFault::TooLong(file)) => return Ending::Limit(file, FILE_LIMIT as u64),
         Err(ReadFault::Memory) => return Ending::Memory,
     };
     match outcome_of(alloc, texts, link) {

@@ -1,19 +1,11 @@
 // How a call ends, its status, and its line on the error stream.
 ghost use Rattle.std.specs.Prelude.{◌≡◌, ◌⊎◌, ◌≤◌, ◌++◌, ◌∷◌, Some, IfOk, codes, decimal};
 ghost use Rattle.vd_app.specs.Command.{Bytes};
-ghost use Rattle.vd_app.specs.Call.{TellsEnding, status_of, error_line, quantity_text};
+ghost use Rattle.vd_app.specs.Call.{TellsEnding, status_of};
 ghost use Rattle.vd_app.specs.Steps.{PutsLine};
 
-use crate::files::FILE_LIMIT;
 use std::alloc::{AllocError, Global};
 use vd_base::{Sink, SinkFault, Text};
-
-/// What passes a limit.
-#[derive(Clone, Copy)]
-pub enum Quantity<'a> {
-    /// The bytes of a file.
-    FileBytes(&'a str),
-}
 
 /// How a call ended.
 #[derive(Clone, Copy)]
@@ -26,7 +18,8 @@ pub enum Ending<'a> {
     Usage,
     CannotRead(&'a str),
     CannotWrite,
-    Limit(Quantity<'a>),
+    /// Something passes a limit: its name, and the limit.
+    Limit(&'a str, u64),
     Memory,
     /// The command is not built, or the files are outside the form that is.
     Unbuilt,
@@ -42,7 +35,7 @@ pub fn status_of(ending: Ending) -> u8
         Ending::Usage => 2,
         Ending::CannotRead(_) => 3,
         Ending::CannotWrite => 4,
-        Ending::Limit(_) => 6,
+        Ending::Limit(_, _) => 6,
         Ending::Memory => 7,
         Ending::Unbuilt => 8,
     }
@@ -57,15 +50,11 @@ fn cannot_read_line(alloc: Global, file: &str) -> Result<Text, AllocError>
     Ok(line)
 }
 
-fn limit_line(alloc: Global, quantity: Quantity) -> Result<Text, AllocError>
-    ensures { IfOk result (λ line. line ≡ codes "desk: limit " ++ (quantity_text quantity.entry ++ codes "\n")) }
+fn limit_line(alloc: Global, what: &str, bound: u64) -> Result<Text, AllocError>
+    ensures { IfOk result (λ line. line ≡ codes "desk: limit " ++ (what.now ++ (32 ∷ (decimal bound ++ codes "\n")))) }
 {
-    match quantity {
-        Quantity::FileBytes(file) => {
-            let line = format!(in alloc; "desk: limit {file} {FILE_LIMIT}\n")?;
-            Text::new(alloc, line.as_bytes())
-        }
-    }
+    let line = format!(in alloc; "desk: limit {what} {bound}\n")?;
+    Text::new(alloc, line.as_bytes())
 }
 
 /// Puts the line of an ending, and says how the call ends then.
@@ -106,7 +95,7 @@ pub fn tell<'a, E: Sink>(alloc: Global, ending: Ending<'a>, err: &mut E) -> Endi
         Ending::Usage => put_line(b"desk: usage\n", ending, err),
         Ending::CannotRead(file) => put_made(cannot_read_line(alloc, file), ending, err),
         Ending::CannotWrite => put_line(b"desk: cannot write\n", ending, err),
-        Ending::Limit(quantity) => put_made(limit_line(alloc, quantity), ending, err),
+        Ending::Limit(what, bound) => put_made(limit_line(alloc, what, bound), ending, err),
         Ending::Memory => put_line(b"desk: memory\n", ending, err),
         Ending::Unbuilt => put_line(b"desk: unbuilt\n", ending, err),
     }

@@ -1,7 +1,6 @@
 // The snapshot that the texts of a command make.
 ghost use Rattle.std.specs.Prelude.{◌≡◌, ◌↔◌, ◌∷◌, [], IfOk, MatchOption};
-ghost use Rattle.vd_check.specs.Form.{Entry};
-ghost use Rattle.vd_app.specs.Submission.{put, Submits};
+ghost use Rattle.vd_app.specs.Submission.{Entries, put, Submits};
 
 use std::alloc::{AllocError, Global};
 use std::cmp::Ordering;
@@ -35,8 +34,8 @@ fn in_order(
 /// The snapshot after two texts were put, the first before the second. It is None where one has no head line.
 pub fn submitted(alloc: Global, first: Text, second: Text) -> Result<Option<Snapshot>, AllocError>
     ensures { IfOk result (λ found. MatchOption found
-        ((entries : List Entry) → Submits (first ∷ second ∷ []) entries → ⊥)
-        (λ s. (entries : List Entry) → Submits (first ∷ second ∷ []) entries ↔ (entries ≡ s.texts))) }
+        ((entries : Entries) → Submits (first ∷ second ∷ []) entries → ⊥)
+        (λ s. (entries : Entries) → Submits (first ∷ second ∷ []) entries ↔ (entries ≡ s.texts))) }
 {
     let first_name = match head_of(alloc, &first)? {
         Some((_, name)) => name,
