@@ -1,7 +1,7 @@
 -- How a call of the program ends: what each status means, what was written, and why.
 use Rattle.std.specs.Prelude.{◌≡◌, ◌⊎◌, ℕ, Bool, true, false, List, ◌∷◌, ◌++◌, Option, None, Some, codes, decimal}
 use Rattle.vd_base.specs.Cause.{Rose}
-use Rattle.vd_app.specs.Command.{Bytes, Command, Check, Unbuilt, command_of}
+use Rattle.vd_app.specs.Command.{Bytes, CommandLine, Command, Check, Unbuilt, command_of}
 use Rattle.vd_app.specs.Answer.{Answer, HasForm, Answers, files_of, written_text}
 use Rattle.vd_app.specs.Reading.{AreRead, IsReached, IsUnreadable, IsTooLong, file_limit}
 use Rattle.vd_app.specs.Seen.{ShelfSeen, SinkSeen, IsUnread, IsUntouched, Adds, AddsPrefix}
@@ -9,7 +9,7 @@ use Rattle.vd_app.specs.declared.ending.Ending.{Ending}
 use Rattle.vd_app.specs.declared.ending.Ending.TheVariants as ending
 
 -- the words are a command, and this is an answer of what its files were read to hold
-pub record IsAnswered (words : List Bytes) (shelf : ShelfSeen) (answer : Answer) : Type 0 where
+pub record IsAnswered (words : CommandLine) (shelf : ShelfSeen) (answer : Answer) : Type 0 where
   pub command : Command
   pub asked : command_of words ≡ Some command
   pub texts : List Bytes
@@ -17,20 +17,20 @@ pub record IsAnswered (words : List Bytes) (shelf : ShelfSeen) (answer : Answer)
   pub answers : Answers command texts answer
 
 -- an answer of this kind was written whole
-pub record WritesAnswer (words : List Bytes) (shelf : ShelfSeen) (out : SinkSeen) (success : Bool) : Type 0 where
+pub record WritesAnswer (words : CommandLine) (shelf : ShelfSeen) (out : SinkSeen) (success : Bool) : Type 0 where
   pub answer : Answer
   pub answered : IsAnswered words shelf answer
   pub kind : answer.success ≡ success
   pub added : Adds out (written_text answer)
 
 -- a front of an answer was written
-pub record WritesPrefix (words : List Bytes) (shelf : ShelfSeen) (out : SinkSeen) : Type 0 where
+pub record WritesPrefix (words : CommandLine) (shelf : ShelfSeen) (out : SinkSeen) : Type 0 where
   pub answer : Answer
   pub answered : IsAnswered words shelf answer
   pub added : AddsPrefix out (written_text answer)
 
 -- the first file in the order of the words that could not be read
-pub record ReadFails (words : List Bytes) (shelf : ShelfSeen) (file : Bytes) : Type 0 where
+pub record ReadFails (words : CommandLine) (shelf : ShelfSeen) (file : Bytes) : Type 0 where
   pub command : Command
   pub asked : command_of words ≡ Some command
   pub reached : IsReached shelf.held (files_of command) file
@@ -42,7 +42,7 @@ pub data PassesLimit (command : Command) (shelf : ShelfSeen) (what : Bytes) (bou
   file_bytes : bound ≡ file_limit → IsReached shelf.held (files_of command) what → IsTooLong shelf what → PassesLimit command shelf what bound
 
 -- a limit that the command passes
-pub record LimitPassed (words : List Bytes) (shelf : ShelfSeen) (what : Bytes) (bound : ℕ) : Type 0 where
+pub record LimitPassed (words : CommandLine) (shelf : ShelfSeen) (what : Bytes) (bound : ℕ) : Type 0 where
   pub command : Command
   pub asked : command_of words ≡ Some command
   pub passes : PassesLimit command shelf what bound
@@ -53,13 +53,13 @@ IsOutside Unbuilt shelf = IsUnread shelf
 IsOutside command shelf = (texts : List Bytes) × AreRead shelf.held (files_of command) texts × (HasForm command texts → ⊥)
 
 -- what the words ask for is not built
-pub record IsNotBuilt (words : List Bytes) (shelf : ShelfSeen) : Type 0 where
+pub record IsNotBuilt (words : CommandLine) (shelf : ShelfSeen) : Type 0 where
   pub command : Command
   pub asked : command_of words ≡ Some command
   pub outside : IsOutside command shelf
 
 -- what each ending says of the words, the shelf and what was written. Want of memory is free.
-abbrev pub Means : Ending → List Bytes → ShelfSeen → SinkSeen → Type 0
+abbrev pub Means : Ending → CommandLine → ShelfSeen → SinkSeen → Type 0
 Means ending.Accepted words shelf out = WritesAnswer words shelf out true
 Means ending.Rejected words shelf out = WritesAnswer words shelf out false
 Means ending.Usage words shelf out = (command_of words ≡ None) × IsUnread shelf × IsUntouched out
@@ -101,7 +101,7 @@ abbrev pub TellsEnding : Ending → SinkSeen → Type 0
 TellsEnding e err = TellsLine e (error_line e) err
 
 -- the status of a call, what it means, and what it says
-pub record Ends (status : ℕ) (words : List Bytes) (shelf : ShelfSeen) (out err : SinkSeen) : Type 0 where
+pub record Ends (status : ℕ) (words : CommandLine) (shelf : ShelfSeen) (out err : SinkSeen) : Type 0 where
   pub ending : Ending
   pub is : status ≡ status_of ending
   pub means : Means ending words shelf out

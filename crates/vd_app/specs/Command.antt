@@ -9,6 +9,10 @@ use Rattle.vd_app.specs.declared.command.Words.TheVariants as words
 abbrev pub Bytes : Type 0
 Bytes = List ℕ
 
+-- the words behind the program's name
+abbrev pub CommandLine : Type 0
+CommandLine = List Bytes
+
 -- what the words ask for
 pub data Command : Type 0 where
   -- the link and the files
@@ -29,7 +33,7 @@ abbrev pub is_unbuilt : Bytes → Bool
 is_unbuilt word = bytes_eq word (codes "session") || (bytes_eq word (codes "play") || (bytes_eq word (codes "audit") || bytes_eq word (codes "gen")))
 
 -- the command that the words are, if they are one
-abbrev pub command_of : List Bytes → Option Command
+abbrev pub command_of : CommandLine → Option Command
 command_of [] = None
 command_of (word ∷ words) = cond (bytes_eq word (codes "check")) (check_of words) (cond (is_unbuilt word) (Some Unbuilt) None)
 

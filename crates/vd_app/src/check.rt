@@ -1,6 +1,6 @@
 // The command `check`.
 ghost use Rattle.std.specs.Prelude.{◌≡◌, ◌≤◌, ◌++◌, ◌∷◌, [], map, string_bytes, Some, IfOk, MatchOption, codes};
-ghost use Rattle.vd_app.specs.Command.{Bytes, command_of, Check};
+ghost use Rattle.vd_app.specs.Command.{Bytes, CommandLine, command_of, Check};
 ghost use Rattle.vd_app.specs.Answer.{AreCheckable, Checks, answer_of, written_text};
 ghost use Rattle.vd_app.specs.Call.{Means};
 ghost use Rattle.vd_app.specs.Seen.{SinkSeen};
@@ -97,7 +97,7 @@ pub fn check<'a, H: Shelf, K: Sink>(
     shelf: &mut H,
     out: &mut K,
 ) -> Ending<'a>
-    ensures means { (words : List Bytes) → command_of words ≡ Some (Check link.now (map string_bytes files.now)) → Means result words
+    ensures means { (words : CommandLine) → command_of words ≡ Some (Check link.now (map string_bytes files.now)) → Means result words
         (record { held = H.held shelf.old; taken = H.taken shelf.old; taken_after = H.taken shelf.new; faults = H.faults shelf.old; faults_after = H.faults shelf.new })
         (record { written = K.written out.old; written_after = K.written out.new; faults = K.faults out.old; faults_after = K.faults out.new }) }
     ensures held { (name : Bytes) → H.held shelf.new name ≡ H.held shelf.old name }
