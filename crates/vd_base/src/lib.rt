@@ -7,6 +7,8 @@ mod list;
 mod name;
 mod shelf;
 mod sink;
+#[cfg(test)]
+mod tests;
 mod text;
 
 pub use ctype::{CType, Field, copy_fields};

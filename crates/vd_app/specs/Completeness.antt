@@ -1,0 +1,21 @@
+-- When a call answers by the definitions.
+use Rattle.std.specs.Prelude.{◌≡◌, ◌⊎◌, ℕ, Bool, true, false, List, Some, if◌then◌else◌}
+use Rattle.vd_base.specs.Cause.{Rose}
+use Rattle.vd_app.specs.Command.{Bytes, CommandLine, Command, command_of}
+use Rattle.vd_app.specs.Answer.{Answer, HasForm, Answers, files_of, written_text}
+use Rattle.vd_app.specs.Reading.{AreHeld}
+use Rattle.vd_app.specs.Seen.{ShelfSeen, SinkSeen, Adds}
+
+-- the answer of the texts is written, and the status is its kind
+pub record AnswersBy (status : ℕ) (command : Command) (texts : List Bytes) (out : SinkSeen) : Type 0 where
+  pub answer : Answer
+  pub answers : Answers command texts answer
+  pub kind : status ≡ (if answer.success then 0 else 1)
+  pub added : Adds out (written_text answer)
+
+-- Where the words are a command, the shelf tells that all its files are held and within the limit, and no count of the
+-- shelf or the output rises, the answer is written, unless memory runs out or the texts are outside the form.
+abbrev pub IsComplete : ℕ → CommandLine → ShelfSeen → SinkSeen → Type 0
+IsComplete status words shelf out = (command : Command) (texts : List Bytes) → command_of words ≡ Some command → AreHeld shelf.held (files_of command) texts
+    → (Rose shelf.faults shelf.faults_after → ⊥) → (Rose out.faults out.faults_after → ⊥)
+    → AnswersBy status command texts out ⊎ (status ≡ 7) ⊎ ((status ≡ 8) × (HasForm command texts → ⊥))

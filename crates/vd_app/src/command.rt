@@ -1,0 +1,79 @@
+// The words of the command line.
+ghost use Rattle.std.specs.Prelude.{◌≡◌, map, string_bytes, option_map, IfOk};
+ghost use Rattle.std.specs.List.{list_all};
+ghost use Rattle.std.specs.Str.{bytes_eq};
+ghost use Rattle.vd_app.specs.Command.{command_of, command_read, check_of, is_filled, is_unbuilt};
+
+use std::alloc::{AllocError, Global};
+use vd_base::{Name, NameFault};
+
+/// The command that the words are.
+#[derive(Drop)]
+pub enum Words<'a> {
+    /// The link, and the files.
+    Check(Name, &'a [String]),
+    /// A command that is not built yet.
+    Unbuilt,
+}
+
+fn is_filled(word: &String) -> bool
+    ensures { result ≡ is_filled (string_bytes word.now) }
+{
+    word.len() >= 1
+}
+
+fn all_filled(words: &[String]) -> bool
+    ensures { result ≡ list_all is_filled (map string_bytes words.now) }
+{
+    for word in words {
+        if !is_filled(word) {
+            return false;
+        }
+    }
+    true
+}
+
+fn is(word: &[u8], wanted: &[u8]) -> bool
+    ensures { result ≡ bytes_eq word.now wanted.now }
+{
+    word == wanted
+}
+
+fn is_unbuilt(word: &[u8]) -> bool
+    ensures { result ≡ is_unbuilt word.now }
+{
+    is(word, b"session") || is(word, b"play") || is(word, b"audit") || is(word, b"gen")
+}
+
+fn check_of(alloc: Global, words: &[String]) -> Result<Option<Words<'_>>, AllocError>
+    ensures { IfOk result (λ found. option_map command_read found ≡ check_of (map string_bytes words.now)) }
+{
+    let Some((link, files)) = words.split_first() else {
+        return Ok(None);
+    };
+    if files.len() < 1 || !all_filled(files) {
+        return Ok(None);
+    }
+    match Name::new(alloc, link.as_bytes()) {
+        Ok(name) => Ok(Some(Words::Check(name, files))),
+        Err(NameFault::NotName) => Ok(None),
+        Err(NameFault::Memory(error)) => Err(error),
+    }
+}
+
+/// The command that the words are, where they are one.
+pub fn command_of(alloc: Global, words: &[String]) -> Result<Option<Words<'_>>, AllocError>
+    ensures { IfOk result (λ found. option_map command_read found ≡ command_of (map string_bytes words.now)) }
+{
+    let Some((first, rest)) = words.split_first() else {
+        return Ok(None);
+    };
+    if is(first.as_bytes(), b"check") {
+        return check_of(alloc, rest);
+    }
+    if is_unbuilt(first.as_bytes()) {
+        Ok(Some(Words::Unbuilt))
+    } else {
+        Ok(None)
+    }
+}

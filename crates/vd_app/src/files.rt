@@ -1,0 +1,67 @@
+// The files of a command.
+ghost use Rattle.std.specs.Prelude.{◌≡◌, ◌≤◌, map, string_bytes, IfOk, IfErr, length};
+ghost use Rattle.vd_base.specs.Shelf.{Agrees};
+ghost use Rattle.vd_app.specs.Command.{Bytes};
+ghost use Rattle.vd_app.specs.Reading.{AreRead, file_limit};
+ghost use Rattle.vd_app.specs.Steps.{FileStops, ReadStops};
+
+use std::alloc::Global;
+use vd_base::{List, Shelf, ShelfFault, Text};
+
+/// The most bytes that a file may have.
+pub const FILE_LIMIT: usize = 1048576;
+
+/// Why the files were not read.
+#[derive(Clone, Copy)]
+pub enum ReadFault<'a> {
+    CannotRead(&'a str),
+    TooLong(&'a str),
+    Memory,
+}
+
+fn read_file<'a, H: Shelf>(
+    alloc: Global,
+    file: &'a String,
+    shelf: &mut H,
+) -> Result<Text, ReadFault<'a>>
+    ensures read { IfOk result (λ text. Agrees (H.held shelf.old (string_bytes file.now)) text × (length text ≤ file_limit)) }
+    ensures stops { IfErr result (FileStops (string_bytes file.now)
+        (record { held = H.held shelf.old; taken = H.taken shelf.old; taken_after = H.taken shelf.new; faults = H.faults shelf.old; faults_after = H.faults shelf.new })) }
+    ensures held { (name : Bytes) → H.held shelf.new name ≡ H.held shelf.old name }
+    ensures taken { H.taken shelf.old ≤ H.taken shelf.new }
+    ensures faults { H.faults shelf.old ≤ H.faults shelf.new }
+{
+    match shelf.read(alloc, file.as_str(), FILE_LIMIT) {
+        Ok(bytes) => Ok(Text::from_vec(bytes)),
+        Err(ShelfFault::Failed) => Err(ReadFault::CannotRead(file.as_str())),
+        Err(ShelfFault::TooLong) => Err(ReadFault::TooLong(file.as_str())),
+        Err(ShelfFault::Memory) => Err(ReadFault::Memory),
+    }
+}
+
+/// Reads the files in their order, up to the first that cannot be read or is too long.
+pub fn read_files<'a, H: Shelf>(
+    alloc: Global,
+    files: &'a [String],
+    shelf: &mut H,
+) -> Result<List<Text>, ReadFault<'a>>
+    ensures read { IfOk result (λ texts. AreRead (H.held shelf.old) (map string_bytes files.now) texts) }
+    ensures stops { IfErr result (ReadStops (map string_bytes files.now)
+        (record { held = H.held shelf.old; taken = H.taken shelf.old; taken_after = H.taken shelf.new; faults = H.faults shelf.old; faults_after = H.faults shelf.new })) }
+    ensures held { (name : Bytes) → H.held shelf.new name ≡ H.held shelf.old name }
+    ensures taken { H.taken shelf.old ≤ H.taken shelf.new }
+    ensures faults { H.faults shelf.old ≤ H.faults shelf.new }
+{
+    let mut texts = List::new(alloc);
+    for file in files {
+        match read_file(alloc, file, shelf) {
+            Ok(text) => {
+                if texts.push(text).is_err() {
+                    return Err(ReadFault::Memory);
+                }
+            }
+            Err(fault) => return Err(fault),
+        }
+    }
+    Ok(texts)
+}

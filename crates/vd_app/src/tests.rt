@@ -1,0 +1,204 @@
+// Calls over a shelf and sinks in memory.
+use crate::top::desk_top;
+use std::alloc::{AllocError, Global};
+use std::test::Fail;
+use vd_base::{List, MemShelf, MemSink, Text};
+
+const UNIT: &str =
+    "unit u\nspec main\nint main ( void )\npre prop ( ) sep ( )\npost prop ( r = vi(5) ) sep ( )\nend\nfn main\nint main ( void ) { int t ; t = 2 + 3 ; return t ; }\nend\nscript main\nset ; return ( ) ;\nend\n";
+
+// It promises another result.
+const WRONG_RESULT: &str =
+    "unit u\nspec main\nint main ( void )\npre prop ( ) sep ( )\npost prop ( r = vi(6) ) sep ( )\nend\nfn main\nint main ( void ) { int t ; t = 2 + 3 ; return t ; }\nend\nscript main\nset ; return ( ) ;\nend\n";
+
+// Its sum is no int.
+const OVERFLOW: &str =
+    "unit u\nspec main\nint main ( void )\npre prop ( ) sep ( )\npost prop ( r = vi(5) ) sep ( )\nend\nfn main\nint main ( void ) { int x ; x = 2147483647 ; x = x + 1 ; return x ; }\nend\nscript main\nset ; set ; return ( ) ;\nend\n";
+
+const LINK: &str = "link l\nunits\nu\nend\n";
+
+const ACCEPTED: &str = "header u ok\nbody u main ok\nlink l ok\n";
+
+#[derive(Drop)]
+struct Ran {
+    status: u8,
+    out: MemSink,
+    err: MemSink,
+}
+
+// The numbers of the calls that fail: reads, writes, and writes of the error stream. 0 is none.
+#[derive(Clone, Copy)]
+struct Failing {
+    read: u32,
+    write: u32,
+    error: u32,
+}
+
+const NONE: Failing = Failing {
+    read: 0,
+    write: 0,
+    error: 0,
+};
+
+fn text(alloc: Global, text: &str) -> Result<Text, AllocError> {
+    Text::new(alloc, text.as_bytes())
+}
+
+fn one(alloc: Global, number: u32) -> Result<List<u32>, AllocError> {
+    List::from_slice(alloc, [number].as_slice())
+}
+
+// A text of so many bytes, which has no head line.
+fn long(alloc: Global, length: usize) -> Result<Text, AllocError> {
+    let bytes = vec![in alloc; b'x'; length]?;
+    Ok(Text::from_vec(bytes))
+}
+
+// Runs the words over u.txt, which holds the unit, l.txt, full.txt, which has as many bytes as a file may have, and
+// long.txt, which has one more.
+fn run(alloc: Global, words: &[&str], unit: &str, failing: Failing) -> Result<Ran, AllocError> {
+    let mut all = Vec::new(alloc);
+    for word in words {
+        all.push(String::from_str(alloc, word)?)?;
+    }
+    let mut files = List::new(alloc);
+    files.push((text(alloc, "u.txt")?, text(alloc, unit)?))?;
+    files.push((text(alloc, "l.txt")?, text(alloc, LINK)?))?;
+    files.push((text(alloc, "full.txt")?, long(alloc, 1048576)?))?;
+    files.push((text(alloc, "long.txt")?, long(alloc, 1048577)?))?;
+    let mut shelf = MemShelf::new(files, one(alloc, failing.read)?);
+    let mut out = MemSink::new(alloc, one(alloc, failing.write)?);
+    let mut err = MemSink::new(alloc, one(alloc, failing.error)?);
+    let status = desk_top(alloc, all.as_slice(), &mut shelf, &mut out, &mut err);
+    Ok(Ran { status, out, err })
+}
+
+// Calls that end before the files are checked: the words, what fails, the status, and the error stream.
+#[test]
+fn faults_of_words_and_files(rt: HostRuntime) -> Result<(), Fail> {
+    let first = Failing { read: 1, ..NONE };
+    let second = Failing { read: 2, ..NONE };
+    let silent = Failing { error: 1, ..NONE };
+    let usage = "desk: usage\n";
+    let unbuilt = "desk: unbuilt\n";
+    let limit = "desk: limit long.txt 1048576\n";
+    let cases = [
+        ([].as_slice(), NONE, 2, usage),
+        (["check"].as_slice(), NONE, 2, usage),
+        (["check", "l"].as_slice(), NONE, 2, usage),
+        (["check", "l", ""].as_slice(), NONE, 2, usage),
+        (["check", "0l", "u.txt"].as_slice(), NONE, 2, usage),
+        (["verify", "l", "u.txt"].as_slice(), NONE, 2, usage),
+        (["check", "l"].as_slice(), silent, 2, ""),
+        (
+            ["check", "l", "m.txt", "l.txt"].as_slice(),
+            NONE,
+            3,
+            "desk: cannot read m.txt\n",
+        ),
+        (
+            ["check", "l", "u.txt", "m.txt"].as_slice(),
+            NONE,
+            3,
+            "desk: cannot read m.txt\n",
+        ),
+        (
+            ["check", "l", "u.txt", "l.txt"].as_slice(),
+            first,
+            3,
+            "desk: cannot read u.txt\n",
+        ),
+        (
+            ["check", "l", "u.txt", "l.txt"].as_slice(),
+            second,
+            3,
+            "desk: cannot read l.txt\n",
+        ),
+        (
+            ["check", "l", "long.txt", "l.txt"].as_slice(),
+            NONE,
+            6,
+            limit,
+        ),
+        (
+            ["check", "l", "u.txt", "long.txt"].as_slice(),
+            NONE,
+            6,
+            limit,
+        ),
+        (
+            ["check", "l", "long.txt", "m.txt"].as_slice(),
+            NONE,
+            6,
+            limit,
+        ),
+        (
+            ["check", "l", "m.txt", "long.txt"].as_slice(),
+            NONE,
+            3,
+            "desk: cannot read m.txt\n",
+        ),
+        (["check", "l", "u.txt"].as_slice(), NONE, 8, unbuilt),
+        (
+            ["check", "l", "u.txt", "l.txt", "l.txt"].as_slice(),
+            NONE,
+            8,
+            unbuilt,
+        ),
+        (["session"].as_slice(), NONE, 8, unbuilt),
+        (["play", "l", "s.txt", "u.txt"].as_slice(), NONE, 8, unbuilt),
+        (["audit", "j"].as_slice(), NONE, 8, unbuilt),
+        (["gen", "2", "7"].as_slice(), NONE, 8, unbuilt),
+    ];
+    for (words, failing, status, err) in cases {
+        let ran = run(rt.alloc(), words, UNIT, failing)?;
+        assert_eq!(rt; ran.status, status, "at {words:?}");
+        assert_eq!(rt; ran.out.bytes(), b"".as_slice());
+        assert_eq!(rt; ran.err.bytes(), err.as_bytes());
+    }
+    Ok(())
+}
+
+// Checks of two files: the words, the unit, what fails, the status, the output, and the error stream.
+#[test]
+fn checks_of_two_files(rt: HostRuntime) -> Result<(), Fail> {
+    let both = ["check", "l", "u.txt", "l.txt"];
+    let swapped = ["check", "l", "l.txt", "u.txt"];
+    let other = ["check", "zz", "u.txt", "l.txt"];
+    let same = ["check", "l", "l.txt", "l.txt"];
+    let full = ["check", "l", "u.txt", "full.txt"];
+    let first = Failing { write: 1, ..NONE };
+    let second = Failing { write: 2, ..NONE };
+    let third = Failing { write: 3, ..NONE };
+    let silent = Failing { error: 1, ..NONE };
+    let wrong = "header u ok\nbody u main refused 2 9 3\nlink l refused 9\n";
+    let overflow = "header u ok\nbody u main refused 2 2 3\nlink l refused 9\n";
+    let unwritten = "desk: cannot write\n";
+    let cases = [
+        (both.as_slice(), UNIT, NONE, 0, ACCEPTED, ""),
+        (swapped.as_slice(), UNIT, NONE, 0, ACCEPTED, ""),
+        (both.as_slice(), UNIT, silent, 0, ACCEPTED, ""),
+        (both.as_slice(), WRONG_RESULT, NONE, 1, wrong, ""),
+        (both.as_slice(), OVERFLOW, NONE, 1, overflow, ""),
+        (other.as_slice(), UNIT, NONE, 1, "no link zz\n", ""),
+        (both.as_slice(), UNIT, first, 4, "", unwritten),
+        (both.as_slice(), UNIT, second, 4, "header u ok\n", unwritten),
+        (
+            both.as_slice(),
+            UNIT,
+            third,
+            4,
+            "header u ok\nbody u main ok\n",
+            unwritten,
+        ),
+        (same.as_slice(), UNIT, NONE, 8, "", "desk: unbuilt\n"),
+        (full.as_slice(), UNIT, NONE, 8, "", "desk: unbuilt\n"),
+    ];
+    for (words, unit, failing, status, out, err) in cases {
+        let ran = run(rt.alloc(), words, unit, failing)?;
+        assert_eq!(rt; ran.status, status, "at {words:?}");
+        assert_eq!(rt; ran.out.bytes(), out.as_bytes());
+        assert_eq!(rt; ran.err.bytes(), err.as_bytes());
+    }
+    Ok(())
+}

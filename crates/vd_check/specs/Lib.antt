@@ -1,0 +1,6 @@
+pub mod Form
+pub mod Report
+pub mod Scratch
+pub mod Script
+pub mod Typing
+pub mod Value

@@ -1,0 +1,55 @@
+-- The lines of a report.
+use Rattle.std.specs.Prelude.{◌≡◌, ℕ, Bool, true, false, List, [], ◌∷◌, ◌++◌, codes, Option, None, Some, map, flat_map, decimal}
+use Rattle.std.specs.List.{list_all}
+use Rattle.vd_check.specs.declared.store.Verdict.{Verdict}
+use Rattle.vd_check.specs.declared.store.Verdict.TheVariants.{Accepted, Refused}
+use Rattle.vd_check.specs.declared.store.WorkKind.{WorkKind}
+use Rattle.vd_check.specs.declared.store.WorkKind.TheVariants.{Header, Body, Sub, Init}
+use Rattle.vd_check.specs.declared.store.WorkName.{WorkName}
+
+abbrev pub Bytes : Type 0
+Bytes = List ℕ
+
+abbrev pub kind_text : WorkKind → Bytes
+kind_text Header = codes "header"
+kind_text Body = codes "body"
+kind_text Sub = codes "sub"
+kind_text Init = codes "init"
+
+-- a space and the word
+abbrev pub spaced : Bytes → Bytes
+spaced word = 32 ∷ word
+
+abbrev pub function_text : Option Bytes → Bytes
+function_text None = []
+function_text (Some name) = spaced name
+
+abbrev pub work_text : WorkName → Bytes
+work_text w = kind_text w.kind ++ (spaced w.owner ++ function_text w.function)
+
+abbrev pub verdict_text : Verdict → Bytes
+verdict_text Accepted = codes " ok"
+verdict_text (Refused at rule condition) = codes " refused" ++ flat_map (λ n. spaced (decimal n)) (at ∷ rule ∷ condition ∷ [])
+
+-- a work and what is found of it
+abbrev pub Finding : Type 0
+Finding = WorkName × Verdict
+
+abbrev pub is_accepted : Verdict → Bool
+is_accepted Accepted = true
+is_accepted (Refused at rule condition) = false
+
+abbrev pub are_accepted : List Finding → Bool
+are_accepted = list_all (λ f. is_accepted f.1)
+
+-- a link condition that fails: its number, and the words behind it
+abbrev pub Failure : Type 0
+Failure = ℕ × List Bytes
+
+abbrev pub failure_text : Option Failure → Bytes
+failure_text None = codes " ok"
+failure_text (Some f) = codes " refused" ++ (spaced (decimal f.0) ++ flat_map spaced f.1)
+
+-- a line for each work, and the line of the link
+abbrev pub report_lines : List Finding → Bytes → Option Failure → List Bytes
+report_lines findings link failure = map (λ f. work_text f.0 ++ verdict_text f.1) findings ++ (codes "link" ++ (spaced link ++ failure_text failure)) ∷ []

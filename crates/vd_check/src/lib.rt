@@ -1,0 +1,8 @@
+//! Checks a link over the texts of a snapshot: a verdict for each work, the report, and whether all is accepted.
+#![tactic(auto)]
+
+mod store;
+mod whole;
+
+pub use store::{Linkset, Outcome, Report, Snapshot, Verdict, WorkKind, WorkName};
+pub use whole::{scratch, try_scratch};
