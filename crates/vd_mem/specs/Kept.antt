@@ -1,5 +1,5 @@
 -- What the kept parts of a block stand for.
-use Rattle.std.specs.Prelude.{◌≡◌, ℕ, ◌<◌, Option, None, Some, Bool, IsSome}
+use Rattle.std.specs.Prelude.{◌≡◌, ℕ, ◌<◌, ◌==◌, cond, Option, None, Some, Bool, IsSome}
 use Rattle.std.specs.Option.{unwrap_or}
 use Rattle.std.specs.Ordering.{nat_cmp}
 use Rattle.std.specs.BTreeMap.{BTreeMap, get}
@@ -20,3 +20,7 @@ block_of size fill live heap written =
 -- only cells of the block were written
 abbrev pub IsWithin : ℕ → BTreeMap ℕ Cell → Type 0
 IsWithin size written = (o : ℕ) → IsSome (get nat_cmp written o) → o < size
+
+-- a cell was written
+abbrev pub WritesTo : BTreeMap ℕ Cell → BTreeMap ℕ Cell → ℕ → Cell → Type 0
+WritesTo before after o c = (q : ℕ) → get nat_cmp after q ≡ cond (q == o) (Some c) (get nat_cmp before q)

@@ -61,8 +61,10 @@ impl Memory {
         ensures ok { OnOk result (self.new ≡ put self.old block offset cell) }
         ensures err { OnErr result (self.new ≡ self.old) }
     {
-        let kept = &mut self.blocks[block as usize];
-        kept.set(offset, cell)
+        let at = block as usize;
+        let kept = &mut self.blocks[at];
+        kept.set(offset, cell)?;
+        Ok(())
     }
 
     /// Sets a lock cell of a live block.
@@ -70,7 +72,8 @@ impl Memory {
         requires { IsLockAt self.old block offset }
         ensures { self.new ≡ put self.old block offset cell }
     {
-        let kept = &mut self.blocks[block as usize];
+        let at = block as usize;
+        let kept = &mut self.blocks[at];
         kept.relock(offset, cell);
     }
 
@@ -80,9 +83,11 @@ impl Memory {
         ensures freed { IsTrue result → self.new ≡ freed self.old block }
         ensures same { IsFalse result → self.new ≡ self.old }
     {
-        match self.blocks.get_mut(block as usize) {
-            Some(kept) => kept.free(),
-            None => false,
+        let at = block as usize;
+        if at >= self.blocks.len() {
+            return false;
         }
+        let kept = &mut self.blocks[at];
+        kept.free()
     }
 }
