@@ -3,5 +3,6 @@
 #![tactic(auto)]
 
 mod answer;
+mod word;
 
 pub use answer::{Cause, End, Outcome, Spot, Stepped, Turn};
