@@ -3,6 +3,10 @@
 #![tactic(auto)]
 
 mod answer;
+mod effect;
+mod evaluate;
+mod frame;
+mod statement;
 mod word;
 
 pub use answer::{Cause, End, Outcome, Spot, Stepped, Turn};
