@@ -1,3 +1,4 @@
 pub mod Codes
+pub mod Gives
 pub mod Layers
 pub mod Walks

@@ -1,5 +1,9 @@
 -- Paths and arguments, taken one after another.
 use Rattle.std.proofs.Common.{◌≡◌, ℕ, suc, ◌+◌, ◌*◌, ◌<◌, List, [], ◌∷◌, ◌++◌, length, get_or, drop, map, pos, negsuc, ℤ, ◌+ℤ◌, ◌≤ℤ◌, Ok, Err, Result, refl, sym, ◌∙◌, ap, subst, arith, add-one, append_assoc}
+use Rattle.std.proofs.Common.{Bool, true, cond, Some}
+use Rattle.std.specs.Prelude.{slice_get}
+use Rattle.std.specs.List.{find}
+use Rattle.std.proofs.lemmas.Option.{slice_get_read}
 use Rattle.std.proofs.Math.Seq.{drop-cons}
 use Rattle.std.proofs.lemmas.Int.{ints}
 use Rattle.std.proofs.lemmas.List.{drop-map}
@@ -57,3 +61,10 @@ pub arguments_fault :
 arguments_fault globals t es i vs c e l at is h =
     h ∙ ap (λ xs. onto vs (eval_all globals t xs)) (drop_at es i e l at)
     ∙ ap (λ r. onto vs (on_ok r (λ u. on_ok (eval_all globals t (drop (i + 1) es)) (λ us. Ok (u ∷ us))))) (sym is)
+
+-- the first item that passes a test, where none before it does
+pub found_at :
+    {A : Type 0} (p : A → Bool) (xs : List A) (i : ℕ) (x : A) → i < length xs → x ≡ get_or xs i x → true ≡ p x →
+    find p xs ≡ find p (drop i xs) → slice_get xs i ≡ find p xs
+found_at p xs i x l e t h =
+    slice_get_read xs (length xs) i x refl l e ∙ sym (h ∙ ap (λ ys. find p ys) (drop_at xs i x l e) ∙ ap (λ b. cond b (Some x) (find p (drop (i + 1) xs))) (sym t))

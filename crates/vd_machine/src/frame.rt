@@ -38,6 +38,16 @@ pub(crate) struct Thread<'p> {
     pub(crate) waiting: Vec<Waiting<'p>>,
 }
 
+/// Past the next statement.
+pub(crate) fn pass(level: &mut Level)
+    requires { level.old.at < length level.old.list.now }
+    ensures { level.new ≡ record level.old { at = level.old.at + 1 } }
+{
+    if level.at < level.list.len() {
+        level.at += 1;
+    }
+}
+
 /// Drops the lists that are at their end and are no loop's body.
 pub(crate) fn settle(frame: &mut Frame)
     ensures code { frame_code frame.new ≡ frame_code frame.old }
