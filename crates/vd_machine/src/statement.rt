@@ -76,6 +76,14 @@ fn after<'p>(thread: &mut Thread<'p>, effect: Effect) -> Did<'p>
     }
 }
 
+fn nothing<'p>(program: &Program, thread: &mut Thread<'p>, memory: &Memory) -> Did<'p>
+    requires { thread.old.top.level.at < length thread.old.top.level.list.now }
+    ensures { (pick : Bool) → Does (acted program.now pick layer.Skip thread.old memory.now) thread.old thread.new memory.now memory.now result }
+{
+    pass(&mut thread.top.level);
+    Did::Moved
+}
+
 fn set<'p>(program: &Program, thread: &mut Thread<'p>, memory: &Memory, number: u32, e: &TExpr) -> Did<'p>
     requires globals { length program.now.globals < 2 ^ 30 }
     requires at { thread.old.top.level.at < length thread.old.top.level.list.now }
@@ -162,7 +170,7 @@ fn lock<'p>(program: &Program, thread: &mut Thread<'p>, memory: &mut Memory, op:
     }
 }
 
-fn branch<'p>(program: &Program, thread: &mut Thread<'p>, memory: &Memory, condition: &Cond, yes: &'p List<TStmt>, no: &'p List<TStmt>) -> Result<Did<'p>, AllocError>
+fn choose<'p>(program: &Program, thread: &mut Thread<'p>, memory: &Memory, condition: &Cond, yes: &'p List<TStmt>, no: &'p List<TStmt>) -> Result<Did<'p>, AllocError>
     requires globals { length program.now.globals < 2 ^ 30 }
     requires at { thread.old.top.level.at < length thread.old.top.level.list.now }
     ensures ok { IfOk result (λ d. (pick : Bool) → Does (acted program.now pick (layer.If condition.now yes.now no.now) thread.old memory.now) thread.old thread.new memory.now memory.now d) }
@@ -307,7 +315,7 @@ fn statement<'p>(alloc: Global, program: &'p Program, rooms: &[u32], thread: &mu
     ensures err { OnErr result (Same thread.old thread.new memory.old memory.new) }
 {
     match s {
-        TStmt::Skip => Ok(after(thread, Effect::Goes)),
+        TStmt::Skip => Ok(nothing(program, thread, memory)),
         TStmt::Set(number, e) => Ok(set(program, thread, memory, *number, e)),
         TStmt::Load(number, place) => Ok(load(program, thread, memory, *number, place)),
         TStmt::Store(place, e) => store(program, thread, memory, place, e),
@@ -316,7 +324,7 @@ fn statement<'p>(alloc: Global, program: &'p Program, rooms: &[u32], thread: &mu
         TStmt::Free(e) => Ok(free(program, thread, memory, e)),
         TStmt::Lock(op, e) => lock(program, thread, memory, *op, e),
         TStmt::Spawn(name, e) => spawn(alloc, program, rooms, thread, memory, name, e),
-        TStmt::If(condition, yes, no) => branch(program, thread, memory, condition, yes, no),
+        TStmt::If(condition, yes, no) => choose(program, thread, memory, condition, yes, no),
         TStmt::Loop(body) => begin(program, thread, memory, body),
         TStmt::Break => Ok(leave_loop(program, thread, memory)),
         TStmt::Continue => Ok(skip_rest(program, thread, memory)),
@@ -333,11 +341,13 @@ pub(crate) fn advance<'p>(alloc: Global, program: &'p Program, rooms: &[u32], th
     ensures err { OnErr result (Same thread.old thread.new memory.old memory.new) }
 {
     settle(&mut thread.top);
-    let level = thread.top.level;
-    if level.at < level.list.len() {
-        return statement(alloc, program, rooms, thread, memory, pick, &level.list[level.at]);
+    let list = thread.top.level.list;
+    let at = thread.top.level.at;
+    if at < list.len() {
+        let next = &list[at];
+        return statement(alloc, program, rooms, thread, memory, pick, next);
     }
-    if level.is_loop {
+    if thread.top.level.is_loop {
         thread.top.level.at = 0;
         return Ok(Did::Moved);
     }
