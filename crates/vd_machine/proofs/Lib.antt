@@ -1,0 +1,5 @@
+pub mod Calls
+pub mod Codes
+pub mod Gives
+pub mod Layers
+pub mod Walks
