@@ -1,8 +1,8 @@
 -- Texts that begin with a head line and sections.
-use Rattle.std.proofs.Common.{◌≡◌, ◌⊎◌, ℕ, ◌+◌, Bool, true, false, not, List, [], ◌∷◌, ◌++◌, length, codes, Option, None, Some, refl, ap, sym, ◌∙◌, subst, append_assoc, append-nil, length-append, arith, inl, inr}
+use Rattle.std.proofs.Common.{◌≡◌, true, false, not, List, [], ◌∷◌, ◌++◌, codes, Option, None, refl, ap, sym, ◌∙◌, subst, append_assoc, append-nil, inl, inr}
 use Rattle.std.specs.Prelude.{All}
 use Rattle.std.specs.List.{list_all}
-use Rattle.std.proofs.lemmas.List.Elements.{All-nil, All-push, All-tail}
+use Rattle.std.proofs.lemmas.List.Elements.{All-push, All-tail}
 use Rattle.vd_base.specs.Name.{is_name}
 use Rattle.vd_outline.specs.declared.outline.Outline.{Outline}
 use Rattle.vd_outline.specs.declared.outline.TextKind.{TextKind}
@@ -11,13 +11,13 @@ use Rattle.vd_outline.specs.declared.section.Section.{Section}
 use Rattle.vd_outline.specs.declared.section.SectionKind.{SectionKind}
 use Rattle.vd_outline.specs.declared.section.SectionKind.TheVariants as section
 use Rattle.vd_outline.specs.Fault.{MayBegin, StandsSoFar}
-use Rattle.vd_outline.specs.Lines.{lacks, is_line, is_end, joined}
-use Rattle.vd_outline.specs.Outline.{Bytes, head_line, header_line, HasHead, IsSection, AreOnce, Outlines}
-use Rattle.vd_outline.specs.Reading.{HasInner, IsHeader, AreSections, has_header}
+use Rattle.vd_outline.specs.Lines.{is_line, is_end, joined}
+use Rattle.vd_outline.specs.Outline.{Bytes, head_line, header_line, IsSection, AreOnce, Outlines}
+use Rattle.vd_outline.specs.Reading.{IsHeader, has_header}
 use Rattle.vd_outline.proofs.Cuts.{cut_unique}
 use Rattle.vd_outline.proofs.WordLaws.{lacks-head_line, head_line_unique}
 use Rattle.vd_outline.proofs.BodyLaws.{joined-append}
-use Rattle.vd_outline.proofs.SectionLaws.{bytes_of, bytes_of-append, HasFirst, first_sections, behind_header, header_cut, once_push}
+use Rattle.vd_outline.proofs.SectionLaws.{bytes_of, bytes_of-append, HasFirst, first_sections, once_push}
 use Rattle.vd_outline.proofs.LinkLaws.{link_one, has_units}
 use Rattle.vd_outline.proofs.Ends.{IsWhole, whole-bytes_of, whole-append, whole-joined}
 
@@ -47,7 +47,7 @@ pub record HasBegun (kind : TextKind) (name : Bytes) (ss : List Section) (more :
 pub begun : (kind : TextKind) (name : Bytes) (ss : List Section) (more : Bytes) (o : Outline) → is_name name ≡ true → All (IsSection kind) ss → Outlines (front_of kind name ss ++ more) o → HasBegun kind name ss more o
 begun kind name ss more o named each h =
     let both = cut_unique 10 (head_line kind name) (bytes_of ss ++ more) (head_line o.kind o.name) (bytes_of o.sections) (lacks-head_line kind name named) (lacks-head_line o.kind o.name h.named)
-        (sym (front-append kind name ss more) ∙ h.bytes) in
+    (sym (front-append kind name ss more) ∙ h.bytes) in
     let same = head_line_unique kind o.kind name o.name both.0 in
     let all : All (IsSection kind) o.sections = subst (λ k. All (IsSection k) o.sections) (sym same.0) h.sections in
     let first : HasFirst ss o.sections more = first_sections kind ss o.sections more each all both.1 in
@@ -82,7 +82,7 @@ may_go_on : (kind : TextKind) (name : Bytes) (ss : List Section) (s : Section) (
 may_go_on kind name ss s front more named each once i new cut =
     let o : Outline = record { kind = kind; name = name; sections = ss ++ s ∷ [] } in
     let whole : front_of kind name (ss ++ s ∷ []) ≡ front ++ more =
-        ap (λ x. head_line kind name ++ 10 ∷ x) (bytes_of-append ss (s ∷ []) ∙ ap (λ x. bytes_of ss ++ x) (append-nil s.text)) ∙ sym (front-append kind name ss s.text) ∙ sym cut in
+    ap (λ x. head_line kind name ++ 10 ∷ x) (bytes_of-append ss (s ∷ []) ∙ ap (λ x. bytes_of ss ++ x) (append-nil s.text)) ∙ sym (front-append kind name ss s.text) ∙ sym cut in
     (more, o, subst (λ t. Outlines t o) whole (outlined kind name (ss ++ s ∷ []) named (All-push (IsSection kind) ss s each i) (once_push ss s once new) (λ link none. no_push ss s none)))
 
 -- the shortest section of a link
@@ -113,7 +113,7 @@ may_inside kind name ss line lines sk sn named each once header new printable in
     let s : Section = record { kind = sk; name = sn; text = all } in
     let i : IsSection kind s = record { lines = lines; bytes = refl; printable = printable; inside = inside; named = header.named; stands = header.stands } in
     let text : joined (line ∷ lines) ++ (codes "end" ++ 10 ∷ []) ≡ all =
-        sym (joined-append (line ∷ lines) (codes "end" ∷ [])) ∙ ap (λ x. joined (x ∷ (lines ++ codes "end" ∷ []))) header.is in
+    sym (joined-append (line ∷ lines) (codes "end" ∷ [])) ∙ ap (λ x. joined (x ∷ (lines ++ codes "end" ∷ []))) header.is in
     may_go_on kind name ss s (front_of kind name ss ++ joined (line ∷ lines)) (codes "end" ++ 10 ∷ []) named each once i (subst (λ x. has_header ss x ≡ false) header.is new)
     (append_assoc (front_of kind name ss) (joined (line ∷ lines)) (codes "end" ++ 10 ∷ []) ∙ ap (λ x. front_of kind name ss ++ x) text)
 

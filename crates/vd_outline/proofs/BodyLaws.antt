@@ -1,12 +1,11 @@
 -- The lines of a section are read in one way.
-use Rattle.std.proofs.Common.{◌≡◌, ◌⊎◌, ℕ, ◌+◌, ◌-◌, ◌≤◌, Bool, true, false, not, ◌&&◌, List, [], ◌∷◌, ◌++◌, length, codes, refl, ap, sym, ◌∙◌, subst, append_assoc, append-nil, length-append, arith, inl, inr}
+use Rattle.std.proofs.Common.{◌≡◌, ◌+◌, ◌-◌, Bool, true, false, not, List, [], ◌∷◌, ◌++◌, length, codes, refl, ap, sym, ◌∙◌, subst, append_assoc, append-nil, length-append, arith}
 use Rattle.std.specs.List.{list_all}
-use Rattle.std.specs.Str.{bytes_eq}
 use Rattle.std.proofs.lemmas.List.Folds.{list_all-append}
 use Rattle.std.proofs.lemmas.Slice.Eq.{bytes_eq-Decides}
 use Rattle.vd_outline.specs.Lines.{lacks, is_line, is_end, joined}
 use Rattle.vd_outline.specs.Outline.{Bytes}
-use Rattle.vd_outline.specs.Reading.{HasInner, Ends, Stops, BeginsBadly}
+use Rattle.vd_outline.specs.Reading.{HasInner, Ends}
 use Rattle.vd_outline.proofs.Cuts.{and-true-left, and-true-right, both_true, cut_unique, lacks-line}
 
 pub joined-append : (ls ms : List Bytes) → joined (ls ++ ms) ≡ joined ls ++ joined ms
@@ -19,9 +18,6 @@ joined-append (l ∷ ls) ms = ap (λ r. l ++ 10 ∷ r) (joined-append ls ms) ∙
 pub record HasRead (bytes rest : Bytes) : Type 0 where
   pub lines : List Bytes
   pub inner : HasInner bytes lines rest
-
-pub nothing_read : (bytes : Bytes) → HasRead bytes bytes
-nothing_read bytes = record { lines = []; inner = record { cut = refl; printable = refl; inside = refl } }
 
 pub all_with : (p : Bytes → Bool) (ls : List Bytes) (l : Bytes) → list_all p ls ≡ true → p l ≡ true → list_all p (ls ++ l ∷ []) ≡ true
 all_with p ls l all one = list_all-append p ls (l ∷ []) ∙ both_true (list_all p ls) (list_all p (l ∷ [])) all (both_true (p l) true one refl)
@@ -50,21 +46,6 @@ ended bytes rest line after r cut ends =
       counted = omega arith;
     }
 
-pub stopped_unended : (bytes rest : Bytes) → HasRead bytes rest → lacks 10 rest ≡ true → Stops bytes (length rest)
-stopped_unended bytes rest r one = record { lines = r.lines; rest = rest; inner = r.inner; bad = inl one; counted = refl }
-
-pub stopped_badly : (bytes rest line after : Bytes) → HasRead bytes rest → rest ≡ line ++ 10 ∷ after → lacks 10 line ≡ true → is_line line ≡ false → Stops bytes (length rest)
-stopped_badly bytes rest line after r cut one bad = record {
-  lines = r.lines;
-  rest = rest;
-  inner = r.inner;
-  bad = inr (record { line = line; rest = after; cut = cut; one = one; unprintable = bad });
-  counted = refl;
-}
-
-pub shorter : (rest line after : Bytes) → rest ≡ line ++ 10 ∷ after → length after + 1 ≤ length rest
-shorter rest line after cut = let l : length rest ≡ length line + length (10 ∷ after) = ap length cut ∙ length-append line (10 ∷ after) in omega arith
-
 -- ---- one way
 
 not_true : (b : Bool) → not b ≡ true → b ≡ false
@@ -73,10 +54,6 @@ not_true false h = refl
 
 end_is_no_line : (ls : List Bytes) → list_all (λ l. not (is_end l)) (codes "end" ∷ ls) ≡ true → ⊥
 end_is_no_line ls h = let bad : false ≡ true = and-true-left (not (is_end (codes "end"))) (list_all (λ l. not (is_end l)) ls) h in cc
-
--- the lines of a section, which the line `end` follows
-pub record IsBody (bytes : Bytes) (lines : List Bytes) (after : Bytes) : Type 0 where
-  pub inner : HasInner bytes lines (codes "end" ++ 10 ∷ after)
 
 -- where the bytes begin with lines that do not end a section, more lines of it and the line `end` follow
 pub record GoesOn (bytes : Bytes) (read : List Bytes) (rest : Bytes) (lines : List Bytes) (after : Bytes) : Type 0 where

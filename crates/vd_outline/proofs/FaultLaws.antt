@@ -1,5 +1,5 @@
 -- Where reading stops, a text is bad.
-use Rattle.std.proofs.Common.{◌≡◌, ◌⊎◌, ℕ, ◌+◌, ◌-◌, ◌≤◌, Bool, true, false, not, List, [], ◌∷◌, ◌++◌, length, codes, Option, refl, ap, sym, ◌∙◌, subst, append_assoc, append-nil, length-append, arith, inl, inr}
+use Rattle.std.proofs.Common.{◌≡◌, ◌⊎◌, ℕ, ◌+◌, ◌-◌, true, false, List, [], ◌∷◌, ◌++◌, length, codes, Option, refl, ap, sym, ◌∙◌, subst, append_assoc, append-nil, length-append, arith, inl, inr}
 use Rattle.std.specs.Prelude.{All}
 use Rattle.std.specs.List.{list_all}
 use Rattle.std.proofs.lemmas.List.Elements.{All-head}
@@ -9,10 +9,10 @@ use Rattle.vd_outline.specs.declared.outline.TextKind.{TextKind}
 use Rattle.vd_outline.specs.declared.outline.TextKind.TheVariants.{Interface, Unit as UnitText, Link}
 use Rattle.vd_outline.specs.declared.section.Section.{Section}
 use Rattle.vd_outline.specs.declared.section.SectionKind.{SectionKind}
-use Rattle.vd_outline.specs.Fault.{MayBegin, StandsSoFar, IsMisplaced, IsUnended, IsUnfinished, IsBadAt}
-use Rattle.vd_outline.specs.Lines.{lacks, is_line, is_end, joined}
+use Rattle.vd_outline.specs.Fault.{StandsSoFar, IsMisplaced, IsUnended, IsUnfinished, IsBadAt}
+use Rattle.vd_outline.specs.Lines.{lacks, is_line, joined}
 use Rattle.vd_outline.specs.Outline.{Bytes, head_line, header_line, IsSection, AreOnce, HasUnits, Outlines}
-use Rattle.vd_outline.specs.Reading.{HasInner, IsHeader, BeginsBadly, Stops, StopsAtHeader, StopsInside, SectionStops, SectionsStop, has_header}
+use Rattle.vd_outline.specs.Reading.{HasInner, IsHeader, BeginsBadly, StopsAtHeader, StopsInside, SectionStops, SectionsStop, has_header}
 use Rattle.vd_outline.proofs.Cuts.{cut_unique, lacks-line, and-true-left}
 use Rattle.vd_outline.proofs.WordLaws.{lacks-header_line}
 use Rattle.vd_outline.proofs.BodyLaws.{GoesOn, goes_on}
@@ -97,12 +97,12 @@ module _ (text : Bytes) (kind : TextKind) (name : Bytes) (ss : List Section) (re
     one = at.one;
     so_far = so_far;
     not_more = λ may.
-      let cut : (front_of kind name ss ++ (at.line ++ 10 ∷ [])) ++ may.0 ≡ front_of kind name ss ++ (at.line ++ 10 ∷ may.0) =
-          append_assoc (front_of kind name ss) (at.line ++ 10 ∷ []) may.0 ∙ ap (λ x. front_of kind name ss ++ x) (append_assoc at.line (10 ∷ []) may.0) in
-      let g : GoesOnWith at.line may.0 = behind at.line may.0 may.1 at.one (subst (λ t. Outlines t may.1) cut may.2) in
-      let seen : has_header ss at.line ≡ true = at.bad g.next.s.kind g.next.s.name (is_header at.line may.0 g) in
-      let new : has_header ss at.line ≡ false = is_new at.line may.0 g in
-      (cc);
+        let cut : (front_of kind name ss ++ (at.line ++ 10 ∷ [])) ++ may.0 ≡ front_of kind name ss ++ (at.line ++ 10 ∷ may.0) =
+        append_assoc (front_of kind name ss) (at.line ++ 10 ∷ []) may.0 ∙ ap (λ x. front_of kind name ss ++ x) (append_assoc at.line (10 ∷ []) may.0) in
+        let g : GoesOnWith at.line may.0 = behind at.line may.0 may.1 at.one (subst (λ t. Outlines t may.1) cut may.2) in
+        let seen : has_header ss at.line ≡ true = at.bad g.next.s.kind g.next.s.name (is_header at.line may.0 g) in
+        let new : has_header ss at.line ≡ false = is_new at.line may.0 g in
+        (cc);
     at = refl;
   }
 
@@ -116,8 +116,8 @@ module _ (text : Bytes) (kind : TextKind) (name : Bytes) (ss : List Section) (re
       record {
         so_far = subst StandsSoFar (sym (tail ∙ append-nil (front_of kind name ss))) so_far;
         not_whole = λ o h.
-          let b : HasBegun kind name ss [] o = begun kind name ss [] o r.named r.each (subst (λ t. Outlines t o) tail h) in
-          link_has_units o.kind o.sections h.units (b.kinds ∙ link) (b.are ∙ ap (λ x. x ++ b.others) none ∙ no_bytes kind b.others b.each (sym b.cut));
+            let b : HasBegun kind name ss [] o = begun kind name ss [] o r.named r.each (subst (λ t. Outlines t o) tail h) in
+            link_has_units o.kind o.sections h.units (b.kinds ∙ link) (b.are ∙ ap (λ x. x ++ b.others) none ∙ no_bytes kind b.others b.each (sym b.cut));
         at = refl;
       }
 
@@ -143,11 +143,11 @@ module _ (text : Bytes) (kind : TextKind) (name : Bytes) (ss : List Section) (re
     section_rest : (more : Bytes) (o : Outline) → Outlines (up_to line lines ++ more) o → (ms : List Bytes) × (tail : Bytes) × (more ≡ joined ms ++ (codes "end" ++ 10 ∷ tail)) × (list_all is_line ms ≡ true)
     section_rest more o h =
         let e : up_to line lines ++ more ≡ front_of kind name ss ++ (line ++ 10 ∷ (joined lines ++ more)) =
-            append_assoc (front_of kind name ss) (joined (line ∷ lines)) more ∙ ap (λ x. front_of kind name ss ++ x) (append_assoc line (10 ∷ joined lines) more) in
+        append_assoc (front_of kind name ss) (joined (line ∷ lines)) more ∙ ap (λ x. front_of kind name ss ++ x) (append_assoc line (10 ∷ joined lines) more) in
         let g : GoesOnWith line (joined lines ++ more) = behind line (joined lines ++ more) o line_lacks (subst (λ t. Outlines t o) e h) in
         let n = g.next in
         let w : GoesOn (joined lines ++ more) lines more n.is.lines (bytes_of n.us) = goes_on (joined lines ++ more) lines more n.is.lines (bytes_of n.us)
-            (record { cut = refl; printable = inner.printable; inside = inner.inside }) (inner_of kind n.s n.is (bytes_of n.us) (joined lines ++ more) n.body) in
+        (record { cut = refl; printable = inner.printable; inside = inner.inside }) (inner_of kind n.s n.is (bytes_of n.us) (joined lines ++ more) n.body) in
         (w.more, bytes_of n.us, w.cut, w.printable)
 
     bad_line : BeginsBadly rest' → IsMisplaced text (length (up_to line lines))
@@ -159,10 +159,10 @@ module _ (text : Bytes) (kind : TextKind) (name : Bytes) (ss : List Section) (re
       one = b.one;
       so_far = inside_so;
       not_more = λ may.
-        let e : (up_to line lines ++ (b.line ++ 10 ∷ [])) ++ may.0 ≡ up_to line lines ++ (b.line ++ 10 ∷ may.0) =
-            append_assoc (up_to line lines) (b.line ++ 10 ∷ []) may.0 ∙ ap (λ x. up_to line lines ++ x) (append_assoc b.line (10 ∷ []) may.0) in
-        let m = section_rest (b.line ++ 10 ∷ may.0) may.1 (subst (λ t. Outlines t may.1) e may.2) in
-        unprintable b.line may.0 m.0 m.1 b.one b.unprintable m.2 m.3;
+          let e : (up_to line lines ++ (b.line ++ 10 ∷ [])) ++ may.0 ≡ up_to line lines ++ (b.line ++ 10 ∷ may.0) =
+          append_assoc (up_to line lines) (b.line ++ 10 ∷ []) may.0 ∙ ap (λ x. up_to line lines ++ x) (append_assoc b.line (10 ∷ []) may.0) in
+          let m = section_rest (b.line ++ 10 ∷ may.0) may.1 (subst (λ t. Outlines t may.1) e may.2) in
+          unprintable b.line may.0 m.0 m.1 b.one b.unprintable m.2 m.3;
       at = refl;
     }
 
@@ -172,9 +172,9 @@ module _ (text : Bytes) (kind : TextKind) (name : Bytes) (ss : List Section) (re
         record {
           so_far = subst StandsSoFar (sym (tail ∙ append-nil (up_to line lines))) inside_so;
           not_whole = λ o h.
-            let m = section_rest [] o (subst (λ t. Outlines t o) tail h) in
-            let long : 0 ≡ length (joined m.0) + length (codes "end" ++ 10 ∷ m.1) = ap length m.2 ∙ length-append (joined m.0) (codes "end" ++ 10 ∷ m.1) in
-            (omega arith);
+              let m = section_rest [] o (subst (λ t. Outlines t o) tail h) in
+              let long : 0 ≡ length (joined m.0) + length (codes "end" ++ 10 ∷ m.1) = ap length m.2 ∙ length-append (joined m.0) (codes "end" ++ 10 ∷ m.1) in
+              (omega arith);
           at = refl;
         }
 
@@ -200,9 +200,9 @@ inside_bad text kind name ss rest left r at (inl one) =
     let cut = inside_cut text kind name ss rest r at.line at.rest at.stops.lines at.stops.rest at.section at.name at.cut at.header at.is_new at.stops.inner in
     unended_or_not (IsBadAt text (length text - left)) at.stops.rest
     (λ none. placed (IsBadAt text) text text [] left (sym (append-nil text)) (at.stops.counted ∙ ap length none)
-      (inr (inr (no_end text kind name ss rest r at.line at.rest at.stops.lines at.stops.rest at.section at.name at.cut at.header at.is_new at.stops.inner none))))
+    (inr (inr (no_end text kind name ss rest r at.line at.rest at.stops.lines at.stops.rest at.section at.name at.cut at.header at.is_new at.stops.inner none))))
     (λ some. placed (IsBadAt text) text (front_of kind name ss ++ joined (at.line ∷ at.stops.lines)) at.stops.rest left cut at.stops.counted
-      (inr (inl (no_feed_inside text kind name ss rest r at.line at.rest at.stops.lines at.stops.rest at.section at.name at.cut at.header at.is_new at.stops.inner one some))))
+    (inr (inl (no_feed_inside text kind name ss rest r at.line at.rest at.stops.lines at.stops.rest at.section at.name at.cut at.header at.is_new at.stops.inner one some))))
 inside_bad text kind name ss rest left r at (inr b) =
     let cut = inside_cut text kind name ss rest r at.line at.rest at.stops.lines at.stops.rest at.section at.name at.cut at.header at.is_new at.stops.inner in
     placed (IsBadAt text) text (front_of kind name ss ++ joined (at.line ∷ at.stops.lines)) at.stops.rest left cut at.stops.counted
@@ -226,6 +226,8 @@ pub sections_bad : (text : Bytes) (kind : TextKind) (name bytes : Bytes) (left :
 sections_bad text kind name bytes left cut named stop =
     let r : WasRead text kind name stop.sections stop.rest = record {
       cut = cut ∙ ap (λ x. head_line kind name ++ 10 ∷ x) stop.cut ∙ sym (front-append kind name stop.sections stop.rest);
-      named = named; each = stop.each; once = stop.once;
+      named = named;
+      each = stop.each;
+      once = stop.once;
     } in
     stop_bad text kind name stop.sections stop.rest left r stop.stops

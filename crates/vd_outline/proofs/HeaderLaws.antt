@@ -1,15 +1,14 @@
 -- A header line is read in one way.
-use Rattle.std.proofs.Common.{◌≡◌, Bool, true, false, not, List, ◌∷◌, ◌++◌, Option, None, Some, is_some, option_copied, Bor, refl, ap, sym, ◌∙◌, subst}
+use Rattle.std.proofs.Common.{◌≡◌, Bool, true, false, not, Option, None, Some, is_some, option_copied, Bor, refl, ap, sym, ◌∙◌, subst}
 use mathlib.Core.Bool.{beq}
 use Rattle.vd_base.specs.Name.{is_name}
 use Rattle.vd_outline.specs.declared.outline.TextKind.{TextKind}
 use Rattle.vd_outline.specs.declared.section.SectionKind.{SectionKind}
-use Rattle.vd_outline.specs.Lines.{lacks}
 use Rattle.vd_outline.specs.Outline.{Bytes, section_word, takes_name, stands_in, header_line, IsNamed}
 use Rattle.vd_outline.specs.Reading.{IsSplit, IsHeader}
 use Rattle.vd_outline.specs.Words.{section_kind_from}
 use Rattle.vd_outline.proofs.Cuts.{cut_unique, uncut}
-use Rattle.vd_outline.proofs.WordLaws.{lacks_section_word, section_word_unique, section_kind_sound, section_kind_from-section_word}
+use Rattle.vd_outline.proofs.WordLaws.{lacks_section_word, section_word_unique, section_kind_from-section_word}
 
 unequal : (a b : Bool) → not (beq a b) ≡ true → a ≡ b → ⊥
 unequal true true unlike same = cc
@@ -77,18 +76,6 @@ not_name line word bytes kind text other (Some name) h none header =
     let same : name ≡ bytes = cc in
     let yes : is_name bytes ≡ true = ap is_name (sym same) ∙ header.named.1 in
     cc
-
--- the line is a header line of that kind without a name
-pub bare_header : (line word : Bytes) (kind : SectionKind) (text : TextKind) → IsHeaded line word kind None → takes_name kind ≡ false → stands_in kind text ≡ true → IsHeader text line kind None
-bare_header line word kind text h bare stands = record { is = h.split.0 ∙ section_kind_sound word kind h.known; named = bare; stands = stands }
-
--- the line is a header line of that kind and name
-pub named_header : (line word bytes name : Bytes) (kind : SectionKind) (text : TextKind) → IsHeaded line word kind (Some bytes) → takes_name kind ≡ true → stands_in kind text ≡ true → name ≡ bytes → is_name name ≡ true → IsHeader text line kind (Some name)
-named_header line word bytes name kind text h takes stands same ok = record {
-  is = h.split.0 ∙ ap (λ w. w ++ 32 ∷ bytes) (section_kind_sound word kind h.known) ∙ ap (λ n. section_word kind ++ 32 ∷ n) (sym same);
-  named = (takes, ok);
-  stands = stands;
-}
 
 -- one of the two, a name and a place for it, is missing
 pub unlike_tests : {A : Type 0} (takes some : Bool) (name : Option (Bor A)) → not (beq takes some) ≡ true → some ≡ is_some name → takes ≡ is_some (option_copied name) → ⊥

@@ -1,11 +1,11 @@
 -- What is read of a section is a section.
-use Rattle.std.proofs.Common.{◌≡◌, ◌⊎◌, ℕ, ◌+◌, ◌-◌, Bool, true, false, List, [], ◌∷◌, ◌++◌, length, take, codes, Option, refl, ap, sym, ◌∙◌, append_assoc, length-append, arith, inl, inr}
+use Rattle.std.proofs.Common.{◌≡◌, ℕ, ◌+◌, ◌-◌, true, Bool, false, [], ◌∷◌, ◌++◌, length, take, codes, Option, ap, sym, ◌∙◌, append_assoc, length-append, arith, inl, inr}
 use Rattle.std.proofs.Math.Seq.{take-append_seam}
 use Rattle.vd_outline.specs.declared.outline.TextKind.{TextKind}
 use Rattle.vd_outline.specs.declared.section.SectionKind.{SectionKind}
 use Rattle.vd_outline.specs.Lines.{lacks, joined}
-use Rattle.vd_outline.specs.Outline.{Bytes, header_line, IsSection}
-use Rattle.vd_outline.specs.Reading.{IsHeader, Ends, Stops, StopsInside, SectionStops}
+use Rattle.vd_outline.specs.Outline.{Bytes, IsSection}
+use Rattle.vd_outline.specs.Reading.{IsHeader, Ends, Stops, SectionStops}
 use Rattle.vd_outline.proofs.BodyLaws.{joined-append}
 
 -- the bytes up to the line `end`, that line included, and what follows
@@ -38,3 +38,8 @@ pub stopped_inside : (text : TextKind) (seen : Bytes → Bool) (bytes line lines
     → bytes ≡ line ++ 10 ∷ lines → IsHeader text line kind name → seen line ≡ false → Stops lines left → SectionStops text seen bytes left
 stopped_inside text seen bytes line lines kind name left cut header new stops =
     inr (inr (record { line = line; rest = lines; section = kind; name = name; cut = cut; header = header; is_new = new; stops = stops }))
+
+pub stopped_seen : (text : TextKind) (seen : Bytes → Bool) (bytes line lines : Bytes) (left : ℕ)
+    → bytes ≡ line ++ 10 ∷ lines → lacks 10 line ≡ true → seen line ≡ true → length bytes ≡ left → SectionStops text seen bytes left
+stopped_seen text seen bytes line lines left cut one old at =
+    inr (inl (record { line = line; rest = lines; cut = cut; one = one; bad = λ section name header. old }, sym at))

@@ -1,7 +1,6 @@
 -- Sections are read in one way.
-use Rattle.std.proofs.Common.{◌≡◌, ◌⊎◌, ℕ, ◌+◌, ◌≤◌, Bool, true, false, not, ◌||◌, List, [], ◌∷◌, ◌++◌, length, flat_map, codes, Option, None, Some, refl, ap, sym, ◌∙◌, subst, append_assoc, append-nil, length-append, arith, inl, inr}
+use Rattle.std.proofs.Common.{◌≡◌, ◌+◌, ◌≤◌, Bool, true, false, ◌||◌, List, [], ◌∷◌, ◌++◌, length, flat_map, codes, Option, refl, ap, sym, ◌∙◌, append_assoc, length-append, arith}
 use Rattle.std.specs.Prelude.{All}
-use Rattle.std.specs.List.{list_all, list_any}
 use Rattle.std.specs.Str.{bytes_eq}
 use Rattle.std.proofs.lemmas.Bool.{false_from_ne_true}
 use Rattle.std.proofs.lemmas.List.Elements.{All-head, All-tail}
@@ -9,7 +8,7 @@ use Rattle.std.proofs.lemmas.Slice.Eq.{bytes_eq-Decides}
 use Rattle.vd_outline.specs.declared.outline.TextKind.{TextKind}
 use Rattle.vd_outline.specs.declared.section.Section.{Section}
 use Rattle.vd_outline.specs.declared.section.SectionKind.{SectionKind}
-use Rattle.vd_outline.specs.Lines.{lacks, is_line, is_end, joined}
+use Rattle.vd_outline.specs.Lines.{lacks, joined}
 use Rattle.vd_outline.specs.Outline.{Bytes, header_line, IsSection, IsNew, AreOnce}
 use Rattle.vd_outline.specs.Reading.{HasInner, has_header}
 use Rattle.vd_outline.proofs.Cuts.{cut_unique}

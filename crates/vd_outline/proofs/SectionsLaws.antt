@@ -1,16 +1,15 @@
 -- Sections that are read one after another.
-use Rattle.std.proofs.Common.{◌≡◌, ◌⊎◌, ℕ, ◌+◌, ◌-◌, ◌≤◌, ◌||◌, ◌==◌, Bool, true, false, List, [], ◌∷◌, ◌++◌, length, Option, refl, ap, sym, ◌∙◌, subst, append_assoc, append-nil, length-append, arith, inl, inr}
+use Rattle.std.proofs.Common.{◌≡◌, ℕ, ◌||◌, ◌==◌, Bool, true, false, List, [], ◌∷◌, ◌++◌, length, refl, ap, sym, ◌∙◌, subst, append_assoc, append-nil, arith, inl, inr}
 use Rattle.std.specs.Prelude.{All}
 use Rattle.std.specs.Str.{bytes_eq}
 use Rattle.std.proofs.lemmas.Bool.{eqb-true}
-use Rattle.std.proofs.lemmas.List.Elements.{All-nil, All-push}
+use Rattle.std.proofs.lemmas.List.Elements.{All-push}
 use Rattle.vd_outline.specs.declared.outline.TextKind.{TextKind}
 use Rattle.vd_outline.specs.declared.outline.TextKind.TheVariants.{Link}
 use Rattle.vd_outline.specs.declared.section.Section.{Section}
-use Rattle.vd_outline.specs.declared.section.SectionKind.{SectionKind}
 use Rattle.vd_outline.specs.Outline.{Bytes, header_line, IsSection, AreOnce}
-use Rattle.vd_outline.specs.Reading.{IsHeader, SectionStops, StopsAtHeader, StopsInside, AreSections, SectionsStop, has_header}
-use Rattle.vd_outline.proofs.SectionLaws.{bytes_of, bytes_of-append, section_long, once_push, has_header-push}
+use Rattle.vd_outline.specs.Reading.{SectionStops, AreSections, SectionsStop, has_header}
+use Rattle.vd_outline.proofs.SectionLaws.{bytes_of, bytes_of-append, once_push, has_header-push}
 use Rattle.vd_outline.proofs.LinkLaws.{has_units}
 
 -- these sections were read, and their header lines are those seen
@@ -27,9 +26,6 @@ none_left (b ∷ bytes) h = absurd (let long : length (b ∷ bytes) ≡ 0 = eqb-
 pub some_left : (bytes : Bytes) → (length bytes == 0) ≡ false → bytes ≡ [] → ⊥
 some_left bytes h none = let test : (length bytes == 0) ≡ true = ap (λ b. length b == 0) none in cc
 
-pub no_sections : (kind : TextKind) (bytes : Bytes) (sections : List Section) (seen : Bytes → Bool) → sections ≡ [] → ((line : Bytes) → seen line ≡ false) → HasSections kind bytes sections seen bytes
-no_sections kind bytes sections seen none new = subst (λ ss. HasSections kind bytes ss seen bytes) (sym none) (record { cut = refl; each = All-nil (IsSection kind); once = tt; same = new })
-
 pub section_more : (kind : TextKind) (bytes : Bytes) (sections sections' : List Section) (seen seen' : Bytes → Bool) (rest after : Bytes) (s : Section)
     → HasSections kind bytes sections seen rest → IsSection kind s → rest ≡ s.text ++ after → seen (header_line s.kind s.name) ≡ false
     → ((line : Bytes) → seen' line ≡ (bytes_eq (header_line s.kind s.name) line || seen line)) → sections' ≡ sections ++ s ∷ [] → HasSections kind bytes sections' seen' after
@@ -40,11 +36,6 @@ section_more kind bytes sections sections' seen seen' rest after s h i cut new n
   once = once_push sections s h.once (sym (h.same (header_line s.kind s.name)) ∙ new);
   same = λ line. now line ∙ ap (λ b. bytes_eq (header_line s.kind s.name) line || b) (h.same line) ∙ sym (has_header-push sections s line);
 })
-
-pub section_shorter : (kind : TextKind) (rest after : Bytes) (s : Section) → IsSection kind s → rest ≡ s.text ++ after → length after + 1 ≤ length rest
-section_shorter kind rest after s i cut =
-    let long : length rest ≡ length s.text + length after = ap length cut ∙ length-append s.text after in
-    omega (arith, section_long kind s i)
 
 -- what was seen is what counts
 stops_same : (kind : TextKind) (seen other : Bytes → Bool) (bytes : Bytes) (left : ℕ) → ((line : Bytes) → seen line ≡ other line) → SectionStops kind seen bytes left → SectionStops kind other bytes left
@@ -71,17 +62,6 @@ sections_stop kind bytes sections seen rest left h some stops = record {
   each = h.each;
   once = h.once;
   stops = inl (some, stops_same kind seen (has_header sections) rest left h.same stops);
-}
-
-pub no_units : (kind : TextKind) (bytes : Bytes) (sections : List Section) (seen : Bytes → Bool) (rest : Bytes)
-    → HasSections kind bytes sections seen rest → rest ≡ [] → kind ≡ Link → sections ≡ [] → SectionsStop kind bytes 0
-no_units kind bytes sections seen rest h end link none = record {
-  sections = sections;
-  rest = rest;
-  cut = h.cut;
-  each = h.each;
-  once = h.once;
-  stops = inr (end, link, none, refl);
 }
 
 pub all_sections : (kind : TextKind) (bytes : Bytes) (sections : List Section) (seen : Bytes → Bool) (rest : Bytes)

@@ -1,5 +1,5 @@
 -- What holds of heads, outlines and faults of a text.
-use Rattle.std.proofs.Common.{◌≡◌, ◌⊎◌, ℕ, ◌+◌, ◌-◌, ◌≤◌, ◌<◌, ◌^◌, min, Bool, true, false, List, [], ◌∷◌, ◌++◌, length, refl, ap, sym, ◌∙◌, subst, append_assoc, append-nil, length-append, arith, inl, inr}
+use Rattle.std.proofs.Common.{◌≡◌, ℕ, ◌+◌, ◌-◌, ◌≤◌, ◌^◌, min, Bool, true, List, [], ◌∷◌, ◌++◌, length, refl, ap, sym, ◌∙◌, subst, append_assoc, append-nil, length-append, arith, inl, inr}
 use Rattle.vd_base.specs.Name.{is_name}
 use Rattle.vd_outline.specs.declared.outline.Outline.{Outline}
 use Rattle.vd_outline.specs.declared.outline.OutlineFault.{OutlineFault}
@@ -10,7 +10,7 @@ use Rattle.vd_outline.specs.declared.reading.SectionFault.{SectionFault}
 use Rattle.vd_outline.specs.declared.reading.SectionFault.TheVariants.{Bad}
 use Rattle.vd_outline.specs.declared.section.Section.{Section}
 use Rattle.vd_outline.specs.Fault.{MayBegin, StandsSoFar, IsMisplaced, IsUnended, IsUnfinished, IsBadAt, IsBad, IsMemory}
-use Rattle.vd_outline.specs.Lines.{lacks, joined}
+use Rattle.vd_outline.specs.Lines.{joined}
 use Rattle.vd_outline.specs.Outline.{Bytes, head_line, HasHead, Outlines}
 use Rattle.vd_outline.specs.Reading.{AreSections, SectionStops, SectionsStop, has_header}
 use Rattle.vd_outline.proofs.Cuts.{cut_unique}
@@ -37,7 +37,7 @@ same_outline o p k n s = ap (λ z. made z o.name o.sections) k ∙ ap (λ z. mad
 pub one_outline : (text : Bytes) (o other : Outline) → Outlines text o → Outlines text other → o ≡ other
 one_outline text o other h k =
     let b : HasBegun o.kind o.name o.sections [] other = begun o.kind o.name o.sections [] other h.named h.sections
-        (subst (λ t. Outlines t other) (h.bytes ∙ sym (append-nil (front_of o.kind o.name o.sections))) k) in
+    (subst (λ t. Outlines t other) (h.bytes ∙ sym (append-nil (front_of o.kind o.name o.sections))) k) in
     same_outline o other (sym b.kinds) (sym b.names) (sym (b.are ∙ ap (λ x. o.sections ++ x) (no_bytes o.kind b.others b.each (sym b.cut)) ∙ append-nil o.sections))
 
 -- ---- faults
@@ -49,7 +49,7 @@ whole_outlined text o h = subst IsWhole (sym h.bytes) (whole-bytes_of o.kind (he
 pub no_outline : (text : Bytes) (place : ℕ) (o : Outline) → IsBadAt text place → Outlines text o → ⊥
 no_outline text place o (inl m) h =
     let cut : text ≡ (m.front ++ (m.line ++ 10 ∷ [])) ++ m.rest =
-        m.cut ∙ ap (λ x. m.front ++ x) (sym (append_assoc m.line (10 ∷ []) m.rest)) ∙ sym (append_assoc m.front (m.line ++ 10 ∷ []) m.rest) in
+    m.cut ∙ ap (λ x. m.front ++ x) (sym (append_assoc m.line (10 ∷ []) m.rest)) ∙ sym (append_assoc m.front (m.line ++ 10 ∷ []) m.rest) in
     m.not_more (m.rest, o, subst (λ t. Outlines t o) cut h)
 no_outline text place o (inr (inl u)) h =
     let w : IsWhole text = whole_outlined text o h in
@@ -73,28 +73,40 @@ shorter_begins front more may = (more ++ may.0, may.1, subst (λ t. Outlines t m
 
 misplaced_last : (text : Bytes) (place : ℕ) → IsMisplaced text place → IsLast text place
 misplaced_last text place m = record {
-  front = m.front; rest = m.line ++ 10 ∷ m.rest; cut = m.cut; so_far = m.so_far; at = m.at;
+  front = m.front;
+  rest = m.line ++ 10 ∷ m.rest;
+  cut = m.cut;
+  so_far = m.so_far;
+  at = m.at;
   last = λ longer more s cut. elim (reaches s.bytes more m.front m.line m.rest m.one (sym (whole_cut longer more s) ∙ sym cut ∙ m.cut)) [
     | inl le ↦ (let long : length longer ≡ length (s.bytes ++ 10 ∷ []) = ap length s.ended in omega (arith, m.at))
     | inr past ↦
         let split : longer ≡ (m.front ++ (m.line ++ 10 ∷ [])) ++ past.0 =
-            s.ended ∙ past.1 ∙ ap (λ x. m.front ++ x) (sym (append_assoc m.line (10 ∷ []) past.0)) ∙ sym (append_assoc m.front (m.line ++ 10 ∷ []) past.0) in
+        s.ended ∙ past.1 ∙ ap (λ x. m.front ++ x) (sym (append_assoc m.line (10 ∷ []) past.0)) ∙ sym (append_assoc m.front (m.line ++ 10 ∷ []) past.0) in
         absurd (m.not_more (shorter_begins (m.front ++ (m.line ++ 10 ∷ [])) past.0 (subst MayBegin split s.may)))
   ];
 }
 
 unended_last : (text : Bytes) (place : ℕ) → IsUnended text place → IsLast text place
 unended_last text place u = record {
-  front = u.front; rest = u.line; cut = u.cut; so_far = u.so_far; at = u.at;
+  front = u.front;
+  rest = u.line;
+  cut = u.cut;
+  so_far = u.so_far;
+  at = u.at;
   last = λ longer more s cut.
-    let le : length (s.bytes ++ 10 ∷ []) ≤ length u.front = stays s.bytes more u.front u.line u.one (sym (whole_cut longer more s) ∙ sym cut ∙ u.cut) in
-    let long : length longer ≡ length (s.bytes ++ 10 ∷ []) = ap length s.ended in
-    (omega (arith, u.at));
+      let le : length (s.bytes ++ 10 ∷ []) ≤ length u.front = stays s.bytes more u.front u.line u.one (sym (whole_cut longer more s) ∙ sym cut ∙ u.cut) in
+      let long : length longer ≡ length (s.bytes ++ 10 ∷ []) = ap length s.ended in
+      (omega (arith, u.at));
 }
 
 unfinished_last : (text : Bytes) (place : ℕ) → IsUnfinished text place → IsLast text place
 unfinished_last text place u = record {
-  front = text; rest = []; cut = sym (append-nil text); so_far = u.so_far; at = u.at;
+  front = text;
+  rest = [];
+  cut = sym (append-nil text);
+  so_far = u.so_far;
+  at = u.at;
   last = λ longer more s cut. (let long : length text ≡ length longer + length more = ap length cut ∙ length-append longer more in omega (arith, u.at));
 }
 
@@ -117,12 +129,15 @@ begins_with_head front rest s =
     let more = s.may.0 in
     let o = s.may.1 in
     let h = s.may.2 in
-    let y = has_line s.bytes more (head_line o.kind o.name) (bytes_of o.sections) (lacks-head_line o.kind o.name h.named) (sym (whole_cut front more s) ∙ h.bytes) in
-    (o.kind, o.name, record {
-      rest = y.0 ++ rest;
-      cut = ap (λ x. x ++ rest) (s.ended ∙ y.1) ∙ append_assoc (head_line o.kind o.name) (10 ∷ y.0) rest;
-      named = h.named;
-    })
+    let y = has_line s.bytes more (head_line o.kind o.name) (bytes_of o.sections) (lacks-head_line o.kind o.name h.named) (sym (whole_cut front more s) ∙ h.bytes) in (
+      o.kind,
+      o.name,
+      record {
+        rest = y.0 ++ rest;
+        cut = ap (λ x. x ++ rest) (s.ended ∙ y.1) ∙ append_assoc (head_line o.kind o.name) (10 ∷ y.0) rest;
+        named = h.named;
+      },
+    )
 
 pub has_head : (text : Bytes) (place : ℕ) → IsBadAt text place → (kind : TextKind) × (name : Bytes) × HasHead text kind name
 has_head text place h =

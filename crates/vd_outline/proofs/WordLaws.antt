@@ -1,17 +1,15 @@
 -- Head lines and header lines are read in one way.
-use Rattle.std.proofs.Common.{◌≡◌, ◌⊎◌, ℕ, Bool, true, false, cond, List, [], ◌∷◌, ◌++◌, Option, None, Some, refl, ap, sym, ◌∙◌, subst, inl, inr}
-use Rattle.std.specs.List.{find, list_all}
-use Rattle.std.specs.Str.{bytes_eq}
-use Rattle.std.proofs.lemmas.Slice.Eq.{bytes_eq-Decides}
+use Rattle.std.proofs.Common.{◌≡◌, ℕ, true, false, ◌∷◌, ◌++◌, Option, None, Some, refl, ap, sym, ◌∙◌}
+use Rattle.std.specs.List.{list_all}
 use Rattle.vd_base.specs.Name.{is_word_byte, is_name}
 use Rattle.vd_outline.specs.declared.outline.TextKind.{TextKind}
 use Rattle.vd_outline.specs.declared.outline.TextKind.TheVariants.{Interface, Unit as UnitText, Link}
 use Rattle.vd_outline.specs.declared.section.SectionKind.{SectionKind}
 use Rattle.vd_outline.specs.declared.section.SectionKind.TheVariants as section
 use Rattle.vd_outline.specs.Lines.{lacks}
-use Rattle.vd_outline.specs.Outline.{Bytes, kind_word, head_line, section_word, takes_name, header_line, IsNamed, HasHead}
-use Rattle.vd_outline.specs.Words.{text_kinds, text_kind_from, section_kinds, section_kind_from}
-use Rattle.vd_outline.proofs.Cuts.{lacks-append, lacks-word, words_of_name, both_true, cut_unique, uncut}
+use Rattle.vd_outline.specs.Outline.{Bytes, kind_word, head_line, section_word, header_line, IsNamed, HasHead}
+use Rattle.vd_outline.specs.Words.{text_kind_from, section_kind_from}
+use Rattle.vd_outline.proofs.Cuts.{lacks-append, lacks-word, words_of_name, cut_unique, uncut}
 
 pub text_kind_from-kind_word : (kind : TextKind) → text_kind_from (kind_word kind) ≡ Some kind
 text_kind_from-kind_word Interface = refl
@@ -50,27 +48,6 @@ word_bytes-section_word section.Fn = refl
 word_bytes-section_word section.Script = refl
 word_bytes-section_word section.Sub = refl
 word_bytes-section_word section.Init = refl
-
--- which way a choice went
-went : {A : Type 0} (b : Bool) (x y : Option A) (z : A) → cond b x y ≡ Some z → ((b ≡ true) × (x ≡ Some z)) ⊎ ((b ≡ false) × (y ≡ Some z))
-went true x y z h = inl (refl, h)
-went false x y z h = inr (refl, h)
-
--- the word of the kind that a word names is that word
-found_kind : {K : Type 0} (word_of : K → Bytes) (word : Bytes) (kinds : List K) (kind : K) → find (λ k. bytes_eq word (word_of k)) kinds ≡ Some kind → word ≡ word_of kind
-found_kind word_of word [] kind h = absurd (cc)
-found_kind word_of word (k ∷ kinds) kind h = elim (went (bytes_eq word (word_of k)) (Some k) (find (λ x. bytes_eq word (word_of x)) kinds) kind h) [
-  | inl t ↦
-      let here : k ≡ kind = (let e : Some k ≡ Some kind = t.1 in cc) in
-      (bytes_eq-Decides word (word_of k)).0 t.0 ∙ ap word_of here
-  | inr f ↦ found_kind word_of word kinds kind f.1
-]
-
-pub text_kind_sound : (word : Bytes) (kind : TextKind) → text_kind_from word ≡ Some kind → word ≡ kind_word kind
-text_kind_sound word kind h = found_kind kind_word word text_kinds kind h
-
-pub section_kind_sound : (word : Bytes) (kind : SectionKind) → section_kind_from word ≡ Some kind → word ≡ section_word kind
-section_kind_sound word kind h = found_kind section_word word section_kinds kind h
 
 pub kind_word_unique : (kind other : TextKind) → kind_word kind ≡ kind_word other → kind ≡ other
 kind_word_unique kind other e =
@@ -116,9 +93,6 @@ head_line_unique kind other name other_name e =
 -- the first line of a text with a head is the head line
 pub first_is_head : (text line rest : Bytes) (kind : TextKind) (name : Bytes) → text ≡ line ++ 10 ∷ rest → lacks 10 line ≡ true → HasHead text kind name → line ≡ head_line kind name
 first_is_head text line rest kind name cut one head = (cut_unique 10 line rest (head_line kind name) head.rest one (lacks-head_line kind name head.named) (sym cut ∙ head.cut)).0
-
-pub no_line : (text : Bytes) (kind : TextKind) (name : Bytes) → lacks 10 text ≡ true → HasHead text kind name → ⊥
-no_line text kind name one head = uncut 10 text (head_line kind name) head.rest one head.cut
 
 pub no_space : (text line rest : Bytes) (kind : TextKind) (name : Bytes) → text ≡ line ++ 10 ∷ rest → lacks 10 line ≡ true → lacks 32 line ≡ true → HasHead text kind name → ⊥
 no_space text line rest kind name cut one none head = uncut 32 line (kind_word kind) name none (first_is_head text line rest kind name cut one head)

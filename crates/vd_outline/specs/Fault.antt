@@ -1,5 +1,5 @@
 -- Where a text stops being an outline.
-use Rattle.std.specs.Prelude.{◌≡◌, ◌⊎◌, ℕ, ◌^◌, ◌-◌, true, List, [], ◌∷◌, ◌++◌, length, min}
+use Rattle.std.specs.Prelude.{◌≡◌, ◌⊎◌, ℕ, ◌^◌, ◌-◌, true, [], ◌∷◌, ◌++◌, length, min}
 use Rattle.vd_outline.specs.declared.outline.Outline.{Outline}
 use Rattle.vd_outline.specs.declared.outline.OutlineFault.{OutlineFault}
 use Rattle.vd_outline.specs.declared.outline.OutlineFault.TheVariants.{NoHead, Bad, Memory}

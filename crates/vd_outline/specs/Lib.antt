@@ -1,7 +1,7 @@
 pub mod Fault
 pub mod Laws
 pub mod Lines
-pub mod Look
+pub mod Lookup
 pub mod Outline
 pub mod Reading
 pub mod Seen

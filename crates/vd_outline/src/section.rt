@@ -1,7 +1,7 @@
 //! Sections of a text.
 
 ghost use Rattle.std.specs.Prelude.{◌≡◌, ◌↔◌, IsTrue, option_copied};
-ghost use Rattle.vd_outline.specs.Look.{is_called, section_called};
+ghost use Rattle.vd_outline.specs.Lookup.{is_called, section_called};
 
 use vd_base::{Name, Text};
 

@@ -1,6 +1,5 @@
-use Rattle.std.proofs.Common.{◌≡◌, ◌∙◌, sym, ap, Bool, false, None, Some, is_some, option_copied}
+use Rattle.std.proofs.Common.{◌≡◌, ◌∙◌, sym, ap, false, None, Some, option_copied}
 use Rattle.vd_base.specs.Name.{is_name}
-use Rattle.vd_outline.specs.Outline.{takes_name, stands_in}
 use Rattle.vd_outline.specs.Reading.{IsSplit}
 use Rattle.vd_outline.specs.Words.{section_kind_from}
 use Rattle.vd_outline.proofs.HeaderLaws.{IsHeaded, no_section_word, not_standing, not_named, not_name, unlike_tests}

@@ -1,4 +1,4 @@
-use Rattle.std.proofs.Common.{◌≡◌, subst}
+use Rattle.std.proofs.Common.{subst}
 use Rattle.vd_outline.specs.Outline.{Bytes, HasHead}
 use Rattle.vd_outline.proofs.outline.head_of.Goals as goal
 

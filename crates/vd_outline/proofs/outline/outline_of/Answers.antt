@@ -1,4 +1,4 @@
-use Rattle.std.proofs.Common.{◌≡◌, ◌≤◌, ◌++◌, ◌∷◌, length, ap, sym, ◌∙◌, subst, Err}
+use Rattle.std.proofs.Common.{◌≡◌, ap, sym, ◌∙◌, subst, Err}
 use Rattle.vd_outline.specs.declared.outline.OutlineFault.TheVariants.{Bad}
 use Rattle.vd_outline.specs.Outline.{Bytes, HasHead, head_line}
 use Rattle.vd_outline.proofs.TextLaws.{head_of_outline, outlines, one_outline, sections_within, told_bad, told_memory}

@@ -1,9 +1,6 @@
-use Rattle.std.proofs.Common.{◌≡◌, ℕ, ◌==◌, Bool, true, false, sym, ◌∙◌, ap, [], ◌∷◌, ◌++◌, Err, rules, length, subst, arith}
+use Rattle.std.proofs.Common.{◌≡◌, true, sym, ◌∙◌, ap, [], ◌∷◌, ◌++◌, Err, rules}
 use Rattle.std.proofs.lemmas.Result.{err_from_is_err_and}
-use Rattle.vd_outline.specs.declared.outline.TextKind.TheVariants.{Link}
-use Rattle.vd_outline.specs.declared.reading.SectionFault.{SectionFault}
 use Rattle.vd_outline.specs.declared.reading.SectionFault.TheVariants.{Bad}
-use Rattle.vd_outline.specs.Outline.{Bytes}
 use Rattle.vd_outline.specs.Seen.{has}
 use Rattle.vd_outline.proofs.SectionsLaws.{none_left, some_left, sections_stop, section_more, all_sections}
 use Rattle.vd_outline.proofs.reading.read_sections.Goals as goal

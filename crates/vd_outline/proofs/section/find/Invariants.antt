@@ -1,5 +1,5 @@
 use Rattle.std.proofs.Common.{◌≡◌, drop, option_copied}
-use Rattle.vd_outline.specs.Look.{section_called}
+use Rattle.vd_outline.specs.Lookup.{section_called}
 use Rattle.vd_outline.proofs.section.find.Given as goal
 
 -- what is left has the section that all have
