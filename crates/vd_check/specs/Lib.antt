@@ -1,3 +1,4 @@
+pub mod Evaluated
 pub mod Form
 pub mod Report
 pub mod Scratch

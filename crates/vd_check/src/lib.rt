@@ -2,6 +2,7 @@
 #![tactic(auto)]
 
 mod store;
+mod value;
 mod whole;
 
 pub use store::{Linkset, Outcome, Report, Snapshot, Verdict, WorkKind, WorkName};
