@@ -1,3 +1,4 @@
+pub mod Effect
 pub mod Evaluated
 pub mod Form
 pub mod Report
