@@ -1,2 +1,3 @@
 pub mod Returns
+pub mod Scripts
 pub mod Values

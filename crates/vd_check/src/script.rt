@@ -1,7 +1,6 @@
 //! Judges a body by its script.
 
-ghost use Rattle.std.specs.Prelude.{◌≡◌, ◌%◌, ◌^◌, List, drop, option_map, IfOk};
-ghost use Rattle.vd_clight.specs.declared.typed.TStmt.{TStmt as Statement};
+ghost use Rattle.std.specs.Prelude.{◌≡◌, None, map, IfOk};
 ghost use Rattle.vd_check.specs.Script.{vi_of, side, are_equal, is_evident, meets, set_to, return_with, apply, rule_of, HasVerdict, HasVerdictFrom};
 ghost use Rattle.vd_check.specs.Value.{value};
 ghost use Rattle.vd_check.specs.Effect.{applied};
@@ -9,6 +8,7 @@ ghost use Rattle.vd_check.specs.Effect.{applied};
 use crate::store::Verdict;
 use crate::value::evaluate;
 use std::alloc::{AllocError, Global};
+use vd_base::Name;
 use vd_clight::{TExpr, TStmt, TypedFn};
 use vd_logic::{Assertion, Op, Prop, Rel, Sort, Step, StepNode, Term};
 
@@ -72,16 +72,16 @@ fn meets(post: &Assertion, returned: u32) -> bool
 
 // ---- rules
 
-/// What a step does: it goes on behind its statement, ends the branch, or fails a condition of its rule.
+/// What a step does: it goes on with the statements left, ends the branch, or fails a condition of its rule.
 #[derive(Clone, Copy)]
-pub(crate) enum Effect {
-    Goes,
+pub(crate) enum Effect<'a> {
+    Goes(&'a [TStmt]),
     Ends,
     Refused(u8),
 }
 
-fn set(locals: &mut [Option<u32>], number: u32, e: &TExpr) -> Effect
-    ensures { (rest : List Statement) → set_to locals.old number rest (value locals.old e.now) ≡ applied result locals.new rest }
+fn set<'a>(locals: &mut [Option<u32>], number: u32, e: &TExpr, rest: &'a [TStmt]) -> Effect<'a>
+    ensures { set_to locals.old number rest.now (value locals.old e.now) ≡ applied result locals.new }
 {
     match evaluate(locals, e) {
         None => Effect::Refused(2),
@@ -93,13 +93,13 @@ fn set(locals: &mut [Option<u32>], number: u32, e: &TExpr) -> Effect
             if number < locals.len() {
                 locals[number] = Some(found.number);
             }
-            Effect::Goes
+            Effect::Goes(rest)
         }
     }
 }
 
-fn return_value(post: &Assertion, locals: &[Option<u32>], e: &TExpr) -> Effect
-    ensures { (rest : List Statement) → return_with post.now (value locals.now e.now) ≡ applied result locals.now rest }
+fn return_value<'a>(post: &Assertion, locals: &[Option<u32>], e: &TExpr) -> Effect<'a>
+    ensures { return_with post.now (value locals.now e.now) ≡ applied result locals.now }
 {
     match evaluate(locals, e) {
         None => Effect::Refused(2),
@@ -113,19 +113,19 @@ fn return_value(post: &Assertion, locals: &[Option<u32>], e: &TExpr) -> Effect
     }
 }
 
-fn apply(
+fn apply<'a>(
     post: &Assertion,
     locals: &mut [Option<u32>],
-    left: &[TStmt],
+    left: &'a [TStmt],
     step: &StepNode,
-) -> Effect
-    ensures { apply post.now (record { locals = locals.old; left = left.now }) step.now ≡ applied result locals.new (drop 1 left.now) }
+) -> Effect<'a>
+    ensures { apply post.now (record { locals = locals.old; left = left.now }) step.now ≡ applied result locals.new }
 {
-    let Some((first, _)) = left.split_first() else {
+    let Some((first, rest)) = left.split_first() else {
         return Effect::Refused(1);
     };
     match (step, first) {
-        (StepNode::Set(_, _), TStmt::Set(number, e)) => set(locals, *number, e),
+        (StepNode::Set(_, _), TStmt::Set(number, e)) => set(locals, *number, e, rest),
         (StepNode::Return(_, _, _), TStmt::Return(Some(e))) => return_value(post, locals, e),
         _ => Effect::Refused(1),
     }
@@ -138,4 +138,63 @@ fn rule_of(step: &StepNode) -> u8
         StepNode::Set(_, _) => 2,
         StepNode::Return(_, _, _) => 9,
     }
+}
+
+// ---- scripts
+
+/// Follows a script from a state. The loop goes once for each step, whatever the length of the body.
+fn follow(
+    post: &Assertion,
+    locals: &mut [Option<u32>],
+    body: &[TStmt],
+    script: &[Step],
+) -> Verdict
+    ensures { HasVerdictFrom post.now 0 (record { locals = locals.old; left = body.now }) script.now result }
+{
+    let mut last = 0;
+    let mut left = body;
+    let mut steps = script;
+    while let Some((step, others)) = steps.split_first() {
+        match apply(post, locals, left, &step.node) {
+            Effect::Goes(rest) => {
+                last = step.number;
+                left = rest;
+                steps = others;
+            }
+            Effect::Ends => {
+                return match others.first() {
+                    None => Verdict::Accepted,
+                    Some(next) => Verdict::Refused(next.number, 0, 11),
+                };
+            }
+            Effect::Refused(condition) => {
+                return Verdict::Refused(step.number, rule_of(&step.node), condition);
+            }
+        }
+    }
+    Verdict::Refused(last.saturating_add(1), 0, 10)
+}
+
+fn entry_locals(alloc: Global, temporaries: &[Name]) -> Result<Vec<Option<u32>>, AllocError>
+    ensures { IfOk result (λ locals. locals.items ≡ map (λ name. None) temporaries.now) }
+{
+    temporaries.iter().map(|_| None).collect(alloc)
+}
+
+/// The verdict on a body by its script.
+pub(crate) fn judge(
+    alloc: Global,
+    post: &Assertion,
+    function: &TypedFn,
+    script: &[Step],
+) -> Result<Verdict, AllocError>
+    ensures { IfOk result (HasVerdict post.now function.now script.now) }
+{
+    let mut locals = entry_locals(alloc, function.temps.as_slice())?;
+    Ok(follow(
+        post,
+        locals.as_mut_slice(),
+        function.body.as_slice(),
+        script,
+    ))
 }
