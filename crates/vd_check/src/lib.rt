@@ -1,6 +1,7 @@
 //! Checks a link over the texts of a snapshot: a verdict for each work, the report, and whether all is accepted.
 #![tactic(auto)]
 
+mod names;
 mod script;
 mod store;
 mod value;
