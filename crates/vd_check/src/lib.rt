@@ -4,6 +4,7 @@
 mod names;
 mod script;
 mod store;
+mod typing;
 mod value;
 mod whole;
 

@@ -1,0 +1,70 @@
+//! Types functions: names become numbers.
+
+ghost use Rattle.std.specs.Prelude.{◌≡◌, ◌≤◌, ◌^◌, option_copied, ◌<◌, List, ℕ, Some, None, true, false, ◌∷◌, length, IfOk, MatchOption};
+ghost use Rattle.vd_check.specs.NameTable.{number};
+ghost use Rattle.vd_check.specs.Typing.{typed_binary, typed_expression, typed_statement, typed_statements, typed_function, name_of, names_of, are_distinct, are_few, number_of};
+
+use crate::names::NameTable;
+use std::alloc::{AllocError, Global};
+use vd_base::{Boxed, Field, List, Name};
+use vd_clight::{BinOp, Expr, ExprNode, FnText, Kind, Stmt, StmtNode, TExpr, TStmt, TypedFn};
+
+// ---- expressions
+
+fn type_binary(
+    alloc: Global,
+    op: BinOp,
+    left: TExpr,
+    right: TExpr,
+) -> Result<Option<TExpr>, AllocError>
+    ensures { IfOk result (λ t. t ≡ typed_binary op (Some left) (Some right)) }
+{
+    match op {
+        BinOp::Add | BinOp::Sub => {
+            let left = Boxed::new(alloc, left)?;
+            let right = Boxed::new(alloc, right)?;
+            Ok(Some(TExpr::Binary(op, Kind::Signed, left, right)))
+        }
+        _ => Ok(None),
+    }
+}
+
+#[tactic(auto, unfolding(crate::specs::Typing::typed_expression))]
+fn type_expression(
+    alloc: Global,
+    table: &NameTable,
+    e: &Expr,
+) -> Result<Option<TExpr>, AllocError>
+    ensures { IfOk result (λ t. t ≡ typed_expression (number table.now) e.now) }
+{
+    match &e.node {
+        ExprNode::Num(n, unsigned) => {
+            if *unsigned {
+                return Ok(None);
+            }
+            Ok(Some(TExpr::Const(*n)))
+        }
+        ExprNode::Ident(name) => Ok(table.number(name.as_bytes()).map(TExpr::Temp)),
+        ExprNode::Binary(op, left, right) => {
+            let Some(left) = type_expression(alloc, table, left.get())? else {
+                return Ok(None);
+            };
+            let Some(right) = type_expression(alloc, table, right.get())? else {
+                return Ok(None);
+            };
+            type_binary(alloc, *op, left, right)
+        }
+        _ => Ok(None),
+    }
+}
+
+// ---- statements
+
+fn name_of(e: &Expr) -> Option<&[u8]>
+    ensures { option_copied result ≡ name_of e.now }
+{
+    match &e.node {
+        ExprNode::Ident(name) => Some(name.as_bytes()),
+        _ => None,
+    }
+}
