@@ -1,8 +1,9 @@
 //! Types functions: names become numbers.
 
-ghost use Rattle.std.specs.Prelude.{◌≡◌, ◌≤◌, ◌^◌, option_copied, ◌<◌, List, ℕ, Some, None, true, false, ◌∷◌, length, IfOk, MatchOption};
+ghost use Rattle.std.specs.Prelude.{◌≡◌, ◌≤◌, ◌^◌, option_copied, option_map, ◌<◌, List, ℕ, Some, None, true, false, ◌∷◌, length, IfOk, MatchOption};
+ghost use Rattle.vd_clight.specs.declared.typed.TStmt.{Return};
 ghost use Rattle.vd_check.specs.NameTable.{number};
-ghost use Rattle.vd_check.specs.Typing.{typed_binary, typed_expression, typed_statement, typed_statements, typed_function, name_of, names_of, are_distinct, are_few, number_of};
+ghost use Rattle.vd_check.specs.Typing.{typed_binary, typed_expression, typed_set, number_in, typed_statement, typed_statements, typed_function, name_of, names_of, are_distinct, are_few, number_of};
 
 use crate::names::NameTable;
 use std::alloc::{AllocError, Global};
@@ -67,4 +68,72 @@ fn name_of(e: &Expr) -> Option<&[u8]>
         ExprNode::Ident(name) => Some(name.as_bytes()),
         _ => None,
     }
+}
+
+fn type_set(
+    alloc: Global,
+    table: &NameTable,
+    place: &Expr,
+    e: &Expr,
+) -> Result<Option<TStmt>, AllocError>
+    ensures { IfOk result (λ t. t ≡ typed_set (number_in (number table.now) (name_of place.now)) (typed_expression (number table.now) e.now)) }
+{
+    let Some(name) = name_of(place) else {
+        return Ok(None);
+    };
+    let Some(number) = table.number(name) else {
+        return Ok(None);
+    };
+    match type_expression(alloc, table, e)? {
+        Some(e) => Ok(Some(TStmt::Set(number, e))),
+        None => Ok(None),
+    }
+}
+
+fn type_return(alloc: Global, table: &NameTable, e: &Expr) -> Result<Option<TStmt>, AllocError>
+    ensures { IfOk result (λ t. t ≡ option_map (λ e. Return (Some e)) (typed_expression (number table.now) e.now)) }
+{
+    match type_expression(alloc, table, e)? {
+        Some(e) => Ok(Some(TStmt::Return(Some(e)))),
+        None => Ok(None),
+    }
+}
+
+fn type_statement(alloc: Global, table: &NameTable, s: &Stmt) -> Result<Option<TStmt>, AllocError>
+    ensures { IfOk result (λ t. t ≡ typed_statement (number table.now) s.now) }
+{
+    match &s.node {
+        StmtNode::Assign(place, e) => type_set(alloc, table, place, e),
+        StmtNode::Return(Some(e)) => type_return(alloc, table, e),
+        _ => Ok(None),
+    }
+}
+
+fn type_statements(
+    alloc: Global,
+    table: &NameTable,
+    body: &[Stmt],
+) -> Result<Option<List<TStmt>>, AllocError>
+    ensures { IfOk result (λ t. t ≡ typed_statements (number table.now) body.now) }
+{
+    let mut typed = List::new(alloc);
+    for s in body {
+        match type_statement(alloc, table, s)? {
+            Some(t) => typed.push(t)?,
+            None => return Ok(None),
+        }
+    }
+    Ok(Some(typed))
+}
+
+// ---- functions
+
+fn copy_names(alloc: Global, fields: &[Field]) -> Result<List<Name>, AllocError>
+    ensures { IfOk result (λ names. names ≡ names_of fields.now) }
+{
+    let mut names = List::new(alloc);
+    for field in fields {
+        names.push(field.name.copy(alloc)?)?;
+    }
+    Ok(names)
 }
