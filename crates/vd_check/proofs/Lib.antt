@@ -1,3 +1,4 @@
+pub mod NameLaws
 pub mod Returns
 pub mod Scripts
 pub mod Values

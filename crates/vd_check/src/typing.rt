@@ -2,8 +2,8 @@
 
 ghost use Rattle.std.specs.Prelude.{◌≡◌, ◌≤◌, ◌^◌, option_copied, option_map, ◌<◌, List, ℕ, Some, None, true, false, ◌∷◌, length, IfOk, MatchOption};
 ghost use Rattle.vd_clight.specs.declared.typed.TStmt.{Return};
-ghost use Rattle.vd_check.specs.NameTable.{number};
-ghost use Rattle.vd_check.specs.Typing.{typed_binary, typed_expression, typed_set, number_in, typed_statement, typed_statements, typed_function, name_of, names_of, are_distinct, are_few, number_of};
+ghost use Rattle.vd_check.specs.NameTable.{number, Numbers};
+ghost use Rattle.vd_check.specs.Typing.{temporaries_limit, typed_binary, typed_expression, typed_set, number_in, typed_statement, typed_statements, typed_function, name_of, names_of, are_distinct, are_few, number_of};
 
 use crate::names::NameTable;
 use std::alloc::{AllocError, Global};
@@ -136,4 +136,52 @@ fn copy_names(alloc: Global, fields: &[Field]) -> Result<List<Name>, AllocError>
         names.push(field.name.copy(alloc)?)?;
     }
     Ok(names)
+}
+
+/// The numbers of the temporaries, where their names and the function's are distinct.
+fn number_temporaries<'a>(
+    alloc: Global,
+    function: &[u8],
+    temporaries: &'a [Field],
+) -> Result<Option<NameTable<'a>>, AllocError>
+    requires { length temporaries.now ≤ temporaries_limit }
+    ensures { IfOk result (λ found. MatchOption found (are_distinct (function.now ∷ names_of temporaries.now) ≡ false) (λ table. Numbers table function.now temporaries.now)) }
+{
+    let mut table = NameTable::new(alloc);
+    for (number, field) in temporaries.iter().enumerate() {
+        let name = field.name.as_bytes();
+        if name == function {
+            return Ok(None);
+        }
+        if !table.add(name, number as u32)? {
+            return Ok(None);
+        }
+    }
+    Ok(Some(table))
+}
+
+/// The typed function, where the function has the form.
+pub fn type_function(alloc: Global, f: &FnText) -> Result<Option<TypedFn>, AllocError>
+    ensures { IfOk result (λ t. t ≡ typed_function f.now) }
+{
+    if !f.params.is_empty() || f.temps.len() > 999 {
+        return Ok(None);
+    }
+    let temporaries = f.temps.as_slice();
+    let Some(table) = number_temporaries(alloc, f.name.as_bytes(), temporaries)? else {
+        return Ok(None);
+    };
+    let Some(body) = type_statements(alloc, &table, f.body.as_slice())? else {
+        return Ok(None);
+    };
+    let name = f.name.copy(alloc)?;
+    let ret = f.ret.copy(alloc)?;
+    let temps = copy_names(alloc, temporaries)?;
+    Ok(Some(TypedFn {
+        name,
+        ret,
+        params: 0,
+        temps,
+        body,
+    }))
 }
