@@ -9,7 +9,9 @@ use Rattle.vd_check.specs.declared.store.Verdict.{Verdict}
 use Rattle.vd_check.specs.declared.store.Verdict.TheVariants.{Accepted}
 use Rattle.vd_check.specs.declared.store.WorkKind.TheVariants.{Header, Body}
 use Rattle.vd_check.specs.Script.{HasVerdict}
-use Rattle.vd_check.specs.Report.{Finding, Failure, are_accepted, report_lines}
+use Rattle.vd_check.specs.declared.report.Finding.{Finding}
+use Rattle.vd_check.specs.declared.report.Failure.{Failure}
+use Rattle.vd_check.specs.Report.{are_accepted, report_lines}
 use Rattle.vd_check.specs.Form.{Entry, UnitParts, Pair, ArePair}
 
 -- The works of a unit of the form with their verdicts, in report order. No condition of its header can fail: its sections
@@ -17,12 +19,12 @@ use Rattle.vd_check.specs.Form.{Entry, UnitParts, Pair, ArePair}
 pub record AreFindings (u : UnitParts) (findings : List Finding) : Type 0 where
   pub body : Verdict
   pub judged : HasVerdict u.spec.post u.typed u.steps body
-  pub all : findings ≡ (record { kind = Header; owner = u.name; function = None }, Accepted)
-      ∷ (record { kind = Body; owner = u.name; function = Some (codes "main") }, body) ∷ []
+  pub all : findings ≡ record { work = record { kind = Header; owner = u.name; function = None }; verdict = Accepted }
+      ∷ record { work = record { kind = Body; owner = u.name; function = Some (codes "main") }; verdict = body } ∷ []
 
 -- the one link condition that can fail in the form: a line above is not ok
 abbrev pub failure_of : List Finding → Option Failure
-failure_of findings = if are_accepted findings then None else Some (9, [])
+failure_of findings = if are_accepted findings then None else Some (record { condition = 9; words = [] })
 
 -- the report of a link of the form over its unit
 pub record Reports (p : Pair) (findings : List Finding) (r : Report) : Type 0 where

@@ -2,6 +2,7 @@
 #![tactic(auto)]
 
 mod names;
+mod report;
 mod script;
 mod store;
 mod typing;
