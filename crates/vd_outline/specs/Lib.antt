@@ -1,2 +1,3 @@
 pub mod Lines
+pub mod Look
 pub mod Outline

@@ -5,4 +5,4 @@ mod outline;
 mod section;
 
 pub use outline::{Outline, OutlineFault, TextKind, head_of, outline_of};
-pub use section::{Section, SectionKind};
+pub use section::{Section, SectionKind, find};

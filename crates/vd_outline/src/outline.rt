@@ -1,6 +1,6 @@
 //! The outline of a whole text.
 
-ghost use Rattle.std.specs.Prelude.{◌≡◌, IfOk, IsErrOf, MatchOption};
+ghost use Rattle.std.specs.Prelude.{◌≡◌, ℕ, IfOk, IsErrOf, MatchOption};
 ghost use Rattle.vd_outline.specs.declared.outline.Outline.{Outline as Outlined};
 ghost use Rattle.vd_outline.specs.declared.outline.TextKind.{TextKind as Kind_of_text};
 ghost use Rattle.vd_outline.specs.Outline.{Bytes, HasHead, Outlines};
@@ -32,9 +32,10 @@ pub enum OutlineFault {
     /// The first line is no head line.
     #[error("no head line")]
     NoHead,
-    /// A line cannot stand where it stands, or lines are missing at the end.
-    #[error("a line that cannot stand where it stands")]
-    Bad,
+    /// The byte, from 0, at which the first line begins that cannot stand where it stands, or the text's length where lines are missing.
+    /// A place above 4294967295 is given as that.
+    #[error("a line that cannot stand where it stands, at {0}")]
+    Bad(u32),
     #[error("out of memory")]
     Memory(AllocError),
 }
@@ -51,8 +52,9 @@ pub fn head_of(alloc: Global, text: &Text) -> Result<Option<(TextKind, Name)>, A
 /// The outline of a text.
 pub fn outline_of(alloc: Global, text: &Text) -> Result<Outline, OutlineFault>
     ensures ok { IfOk result (λ o. Outlines text.now o) }
+    ensures only { IfOk result (λ o. (other : Outlined) → Outlines text.now other → other ≡ o) }
     ensures no_head { IsErrOf result OutlineFault.NoHead → (kind : Kind_of_text) (name : Bytes) → HasHead text.now kind name → ⊥ }
-    ensures bad { IsErrOf result OutlineFault.Bad → (o : Outlined) → Outlines text.now o → ⊥ }
+    ensures none { (place : ℕ) → IsErrOf result (OutlineFault.Bad place) → (o : Outlined) → Outlines text.now o → ⊥ }
 {
     let _ = text;
     let _ = alloc;
