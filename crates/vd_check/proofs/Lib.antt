@@ -1,3 +1,4 @@
+pub mod Forms
 pub mod NameLaws
 pub mod Returns
 pub mod Scripts

@@ -1,6 +1,7 @@
 //! Checks a link over the texts of a snapshot: a verdict for each work, the report, and whether all is accepted.
 #![tactic(auto)]
 
+mod form;
 mod names;
 mod report;
 mod script;
@@ -9,5 +10,7 @@ mod typing;
 mod value;
 mod whole;
 
+pub use form::{LinkParts, Pair, UnitParts};
+pub use report::{Failure, Finding};
 pub use store::{Linkset, Outcome, Report, Snapshot, Verdict, WorkKind, WorkName};
 pub use whole::{scratch, try_scratch};
