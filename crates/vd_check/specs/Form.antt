@@ -66,15 +66,23 @@ IsLink text l = (o : Outline) × Outlines text o × Lists o l
 
 -- ---- both
 
--- the first text is the unit, and the second the link, which lists the unit alone and has another name
+-- the texts of these names are the unit of this name and this link, which lists it alone and has another name
+pub record AreNamed (unit_entry link_entry unit : List ℕ) (l : LinkParts) : Type 0 where
+  pub unit_name : unit_entry ≡ unit
+  pub link_name : link_entry ≡ l.name
+  pub alone : l.units ≡ unit ∷ []
+  pub apart : l.name ≢ unit
+
+abbrev pub listing_of : Pair → LinkParts
+listing_of p = record { name = p.link; units = p.unit.name ∷ [] }
+
+-- the first text is the unit, and the second the link
 pub record ArePair (unit_entry link_entry : Entry) (p : Pair) : Type 0 where
   pub unit : IsUnit unit_entry.2 p.unit
-  pub link : IsLink link_entry.2 (record { name = p.link; units = p.unit.name ∷ [] })
-  pub unit_name : unit_entry.0 ≡ p.unit.name
-  pub link_name : link_entry.0 ≡ p.link
+  pub link : IsLink link_entry.2 (listing_of p)
+  pub named : AreNamed unit_entry.0 link_entry.0 p.unit.name (listing_of p)
   pub unit_version : unit_entry.1 ≡ p.unit_version
   pub link_version : link_entry.1 ≡ p.link_version
-  pub apart : p.link ≢ p.unit.name
 
 -- the texts are such a unit and such a link, in either order
 pub record AreTexts (texts : List Entry) (p : Pair) : Type 0 where

@@ -4,7 +4,7 @@ ghost use Rattle.std.specs.Prelude.{◌≡◌, List as Lists_of, ℕ, ◌∷◌,
 ghost use Rattle.vd_outline.specs.declared.section.SectionKind.TheVariants as kind;
 ghost use Rattle.vd_outline.specs.Outline.{Outlines};
 ghost use Rattle.vd_form.specs.Sections.{Finds, IsSpecification, IsScript, IsNames};
-ghost use Rattle.vd_check.specs.Form.{main, text_of, Under, IsTyped, HasParts, Lists, IsUnit, IsLink, ArePair};
+ghost use Rattle.vd_check.specs.Form.{main, text_of, Under, IsTyped, HasParts, Lists, IsUnit, IsLink, AreNamed, ArePair};
 
 use crate::typing::type_function;
 use std::alloc::{AllocError, Global};
@@ -108,4 +108,111 @@ fn typed_of(alloc: Global, sections: &[Section]) -> Result<Option<TypedFn>, Allo
         Some(text) => read_typed(alloc, text),
         None => Ok(None),
     }
+}
+
+// ---- units and links
+
+fn parts_of(alloc: Global, outline: &Outline) -> Result<Option<UnitParts>, AllocError>
+    ensures { IfOk result (Finds (HasParts outline.now)) }
+{
+    if outline.kind != TextKind::Unit {
+        return Ok(None);
+    }
+    if outline.sections.len() != 3 {
+        return Ok(None);
+    }
+    let sections = outline.sections.as_slice();
+    let Some(spec) = specification_of(alloc, sections)? else {
+        return Ok(None);
+    };
+    let Some(typed) = typed_of(alloc, sections)? else {
+        return Ok(None);
+    };
+    let Some(steps) = script_of(alloc, sections)? else {
+        return Ok(None);
+    };
+    let name = outline.name.copy(alloc)?;
+    Ok(Some(UnitParts {
+        name,
+        spec,
+        typed,
+        steps,
+    }))
+}
+
+fn listing_of(alloc: Global, outline: &Outline) -> Result<Option<LinkParts>, AllocError>
+    ensures { IfOk result (Finds (Lists outline.now)) }
+{
+    if outline.kind != TextKind::Link {
+        return Ok(None);
+    }
+    let Some(units) = units_of(alloc, outline.sections.as_slice())? else {
+        return Ok(None);
+    };
+    let name = outline.name.copy(alloc)?;
+    Ok(Some(LinkParts { name, units }))
+}
+
+fn read_unit(alloc: Global, text: &Text) -> Result<Option<UnitParts>, AllocError>
+    ensures { IfOk result (Finds (IsUnit text.now)) }
+{
+    match outlined(alloc, text)? {
+        Some(outline) => parts_of(alloc, &outline),
+        None => Ok(None),
+    }
+}
+
+fn read_link(alloc: Global, text: &Text) -> Result<Option<LinkParts>, AllocError>
+    ensures { IfOk result (Finds (IsLink text.now)) }
+{
+    match outlined(alloc, text)? {
+        Some(outline) => listing_of(alloc, &outline),
+        None => Ok(None),
+    }
+}
+
+// ---- both
+
+fn is_alone(names: &[Name], name: &Name) -> bool
+    ensures { IsTrue result ↔ (names.now ≡ name.now ∷ []) }
+{
+    match names {
+        [only] => only.is_same(name),
+        _ => false,
+    }
+}
+
+/// Whether the names of two texts are those of the unit and the link, and the link lists the unit alone.
+fn are_named(unit: &Name, link: &Name, own: &Name, listing: &LinkParts) -> bool
+    ensures { IsTrue result ↔ AreNamed unit.now link.now own.now listing.now }
+{
+    if !unit.is_same(own) || !link.is_same(&listing.name) {
+        return false;
+    }
+    !listing.name.is_same(own) && is_alone(listing.units.as_slice(), own)
+}
+
+/// The first text as the unit, the second as the link.
+pub(crate) fn read_pair(
+    alloc: Global,
+    unit: &(Name, u32, Text),
+    link: &(Name, u32, Text),
+) -> Result<Option<Pair>, AllocError>
+    ensures { IfOk result (Finds (ArePair unit.now link.now)) }
+{
+    let Some(listing) = read_link(alloc, &link.2)? else {
+        return Ok(None);
+    };
+    let Some(parts) = read_unit(alloc, &unit.2)? else {
+        return Ok(None);
+    };
+    if !are_named(&unit.0, &link.0, &parts.name, &listing) {
+        return Ok(None);
+    }
+    Ok(Some(Pair {
+        unit: parts,
+        unit_version: unit.1,
+        link: listing.name,
+        link_version: link.1,
+    }))
 }
