@@ -1,4 +1,7 @@
+pub mod Effect
+pub mod Evaluated
 pub mod Form
+pub mod NameTable
 pub mod Report
 pub mod Scratch
 pub mod Script

@@ -132,7 +132,11 @@ pub data Fails (post : Assertion) : ℕ → Node → List Step → ℕ → ℕ �
 abbrev pub entry : TypedFn → Node
 entry f = record { locals = map (λ name. None) f.temps; left = f.body }
 
--- the verdict on a body by its script: its returns meet the postcondition, or where its script fails first
+-- behind the step `last` the script gives this verdict: it is good, or this is where it fails first
+abbrev pub HasVerdictFrom : Assertion → ℕ → Node → List Step → Verdict → Type 0
+HasVerdictFrom post last node steps Accepted = IsGood post node steps
+HasVerdictFrom post last node steps (RefusedAt k r c) = Fails post last node steps k r c
+
+-- the verdict on a body by its script, whose returns meet the postcondition
 abbrev pub HasVerdict : Assertion → TypedFn → List Step → Verdict → Type 0
-HasVerdict post f steps Accepted = IsGood post (entry f) steps
-HasVerdict post f steps (RefusedAt k r c) = Fails post 0 (entry f) steps k r c
+HasVerdict post f steps v = HasVerdictFrom post 0 (entry f) steps v

@@ -1,8 +1,16 @@
 //! Checks a link over the texts of a snapshot: a verdict for each work, the report, and whether all is accepted.
 #![tactic(auto)]
 
+mod form;
+mod names;
+mod report;
+mod script;
 mod store;
+mod typing;
+mod value;
 mod whole;
 
+pub use form::{LinkParts, Pair, UnitParts};
+pub use report::{Failure, Finding};
 pub use store::{Linkset, Outcome, Report, Snapshot, Verdict, WorkKind, WorkName};
 pub use whole::{scratch, try_scratch};

@@ -1,0 +1,5 @@
+pub mod Forms
+pub mod NameLaws
+pub mod Returns
+pub mod Scripts
+pub mod Values

@@ -1,0 +1,218 @@
+//! Reads the texts of the form: a unit, and a link that lists it alone.
+
+ghost use Rattle.std.specs.Prelude.{◌≡◌, List as Lists_of, ℕ, ◌∷◌, [], None, option_copied, IfOk, IsTrue, ◌↔◌};
+ghost use Rattle.vd_outline.specs.declared.section.SectionKind.TheVariants as kind;
+ghost use Rattle.vd_outline.specs.Outline.{Outlines};
+ghost use Rattle.vd_form.specs.Sections.{Finds, IsSpecification, IsScript, IsNames};
+ghost use Rattle.vd_check.specs.Form.{main, text_of, Under, IsTyped, HasParts, Lists, IsUnit, IsLink, AreNamed, ArePair};
+
+use crate::typing::type_function;
+use std::alloc::{AllocError, Global};
+use vd_base::{List, Name, Text};
+use vd_clight::TypedFn;
+use vd_form::{read_function, read_names, read_script, read_specification};
+use vd_logic::{Spec, Step};
+use vd_outline::{Outline, OutlineFault, Section, SectionKind, TextKind, find, outline_of};
+
+/// What a unit of the form holds.
+#[derive(Drop)]
+pub struct UnitParts {
+    pub name: Name,
+    pub spec: Spec,
+    pub typed: TypedFn,
+    pub steps: List<Step>,
+}
+
+/// What a link holds.
+#[derive(Drop)]
+pub struct LinkParts {
+    pub name: Name,
+    pub units: List<Name>,
+}
+
+/// A unit, and the link that lists it alone, with their versions.
+#[derive(Drop)]
+pub struct Pair {
+    pub unit: UnitParts,
+    pub unit_version: u32,
+    pub link: Name,
+    pub link_version: u32,
+}
+
+// ---- sections
+
+fn outlined(alloc: Global, text: &Text) -> Result<Option<Outline>, AllocError>
+    ensures { IfOk result (Finds (Outlines text.now)) }
+{
+    match outline_of(alloc, text) {
+        Ok(outline) => Ok(Some(outline)),
+        Err(OutlineFault::NoHead) => Ok(None),
+        Err(OutlineFault::Bad(_)) => Ok(None),
+        Err(OutlineFault::Memory(fault)) => Err(fault),
+    }
+}
+
+fn text_of<'a>(
+    sections: &'a [Section],
+    kind: SectionKind,
+    name: Option<&[u8]>,
+) -> Option<&'a Text>
+    ensures { option_copied result ≡ text_of kind (option_copied name.entry) sections.now }
+{
+    match find(sections, kind, name) {
+        Some(section) => Some(&section.text),
+        None => None,
+    }
+}
+
+fn specification_of(alloc: Global, sections: &[Section]) -> Result<Option<Spec>, AllocError>
+    ensures { IfOk result (Finds (λ s. Under kind.Spec main sections.now (λ text. IsSpecification text s))) }
+{
+    match text_of(sections, SectionKind::Spec, Some(b"main")) {
+        Some(text) => read_specification(alloc, text),
+        None => Ok(None),
+    }
+}
+
+fn script_of(alloc: Global, sections: &[Section]) -> Result<Option<List<Step>>, AllocError>
+    ensures { IfOk result (Finds (λ steps. Under kind.Script main sections.now (λ text. IsScript text steps))) }
+{
+    match text_of(sections, SectionKind::Script, Some(b"main")) {
+        Some(text) => read_script(alloc, text),
+        None => Ok(None),
+    }
+}
+
+fn units_of(alloc: Global, sections: &[Section]) -> Result<Option<List<Name>>, AllocError>
+    ensures { IfOk result (Finds (λ units. Under kind.Units None sections.now (λ text. IsNames text units))) }
+{
+    match text_of(sections, SectionKind::Units, None) {
+        Some(text) => read_names(alloc, text),
+        None => Ok(None),
+    }
+}
+
+fn read_typed(alloc: Global, text: &Text) -> Result<Option<TypedFn>, AllocError>
+    ensures { IfOk result (Finds (IsTyped text.now)) }
+{
+    match read_function(alloc, text)? {
+        Some(function) => type_function(alloc, &function),
+        None => Ok(None),
+    }
+}
+
+fn typed_of(alloc: Global, sections: &[Section]) -> Result<Option<TypedFn>, AllocError>
+    ensures { IfOk result (Finds (λ t. Under kind.Fn main sections.now (λ text. IsTyped text t))) }
+{
+    match text_of(sections, SectionKind::Fn, Some(b"main")) {
+        Some(text) => read_typed(alloc, text),
+        None => Ok(None),
+    }
+}
+
+// ---- units and links
+
+fn parts_of(alloc: Global, outline: &Outline) -> Result<Option<UnitParts>, AllocError>
+    ensures { IfOk result (Finds (HasParts outline.now)) }
+{
+    if outline.kind != TextKind::Unit {
+        return Ok(None);
+    }
+    if outline.sections.len() != 3 {
+        return Ok(None);
+    }
+    let sections = outline.sections.as_slice();
+    let Some(spec) = specification_of(alloc, sections)? else {
+        return Ok(None);
+    };
+    let Some(typed) = typed_of(alloc, sections)? else {
+        return Ok(None);
+    };
+    let Some(steps) = script_of(alloc, sections)? else {
+        return Ok(None);
+    };
+    let name = outline.name.copy(alloc)?;
+    Ok(Some(UnitParts {
+        name,
+        spec,
+        typed,
+        steps,
+    }))
+}
+
+fn listing_of(alloc: Global, outline: &Outline) -> Result<Option<LinkParts>, AllocError>
+    ensures { IfOk result (Finds (Lists outline.now)) }
+{
+    if outline.kind != TextKind::Link {
+        return Ok(None);
+    }
+    let Some(units) = units_of(alloc, outline.sections.as_slice())? else {
+        return Ok(None);
+    };
+    let name = outline.name.copy(alloc)?;
+    Ok(Some(LinkParts { name, units }))
+}
+
+fn read_unit(alloc: Global, text: &Text) -> Result<Option<UnitParts>, AllocError>
+    ensures { IfOk result (Finds (IsUnit text.now)) }
+{
+    match outlined(alloc, text)? {
+        Some(outline) => parts_of(alloc, &outline),
+        None => Ok(None),
+    }
+}
+
+fn read_link(alloc: Global, text: &Text) -> Result<Option<LinkParts>, AllocError>
+    ensures { IfOk result (Finds (IsLink text.now)) }
+{
+    match outlined(alloc, text)? {
+        Some(outline) => listing_of(alloc, &outline),
+        None => Ok(None),
+    }
+}
+
+// ---- both
+
+fn is_alone(names: &[Name], name: &Name) -> bool
+    ensures { IsTrue result ↔ (names.now ≡ name.now ∷ []) }
+{
+    match names {
+        [only] => only.is_same(name),
+        _ => false,
+    }
+}
+
+/// Whether the names of two texts are those of the unit and the link, and the link lists the unit alone.
+fn are_named(unit: &Name, link: &Name, own: &Name, listing: &LinkParts) -> bool
+    ensures { IsTrue result ↔ AreNamed unit.now link.now own.now listing.now }
+{
+    if !unit.is_same(own) || !link.is_same(&listing.name) {
+        return false;
+    }
+    !listing.name.is_same(own) && is_alone(listing.units.as_slice(), own)
+}
+
+/// The first text as the unit, the second as the link.
+pub(crate) fn read_pair(
+    alloc: Global,
+    unit: &(Name, u32, Text),
+    link: &(Name, u32, Text),
+) -> Result<Option<Pair>, AllocError>
+    ensures { IfOk result (Finds (ArePair unit.now link.now)) }
+{
+    let Some(listing) = read_link(alloc, &link.2)? else {
+        return Ok(None);
+    };
+    let Some(parts) = read_unit(alloc, &unit.2)? else {
+        return Ok(None);
+    };
+    if !are_named(&unit.0, &link.0, &parts.name, &listing) {
+        return Ok(None);
+    }
+    Ok(Some(Pair {
+        unit: parts,
+        unit_version: unit.1,
+        link: listing.name,
+        link_version: link.1,
+    }))
+}
