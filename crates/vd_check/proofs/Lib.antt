@@ -1,5 +1,9 @@
+pub mod Evaluating
 pub mod Forms
 pub mod NameLaws
 pub mod Returns
+pub mod Safety
 pub mod Scripts
 pub mod Values
+pub mod VerdictLaws
+pub mod Wholeness

@@ -7,7 +7,7 @@ use Rattle.vd_outline.specs.declared.outline.TextKind.TheVariants.{Unit as UnitT
 use Rattle.vd_outline.specs.declared.section.Section.{Section}
 use Rattle.vd_outline.specs.declared.section.SectionKind.{SectionKind}
 use Rattle.vd_outline.specs.declared.section.SectionKind.TheVariants as section
-use Rattle.vd_outline.specs.Look.{section_called}
+use Rattle.vd_outline.specs.Lookup.{section_called}
 use Rattle.vd_outline.specs.Outline.{Outlines}
 use Rattle.vd_form.specs.Sections.{IsFunction, IsSpecification, IsScript, IsNames}
 use Rattle.vd_check.specs.declared.form.LinkParts.{LinkParts}

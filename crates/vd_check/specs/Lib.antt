@@ -1,8 +1,11 @@
 pub mod Effect
 pub mod Evaluated
 pub mod Form
+pub mod Laws
+pub mod Meaning
 pub mod NameTable
 pub mod Report
+pub mod Safety
 pub mod Scratch
 pub mod Script
 pub mod Typing
