@@ -1,5 +1,6 @@
 pub mod Forms
 pub mod NameLaws
+pub mod Orders
 pub mod Returns
 pub mod Scripts
 pub mod Values

@@ -1,12 +1,113 @@
 //! The check of a whole snapshot.
 
-ghost use Rattle.std.specs.Prelude.{IfOk, MatchOption};
-ghost use Rattle.vd_check.specs.Form.{HasForm};
-ghost use Rattle.vd_check.specs.Scratch.{Scratches};
+ghost use Rattle.std.specs.Prelude.{◌≡◌, codes, IfOk, MatchOption};
+ghost use Rattle.vd_form.specs.Sections.{Finds};
+ghost use Rattle.vd_check.specs.Form.{HasForm, AreTexts};
+ghost use Rattle.vd_check.specs.Scratch.{Scratches, Gives, findings_of, failure_of, linkset_of};
 
-use crate::store::{Outcome, Snapshot};
+use crate::form::{Pair, read_pair};
+use crate::report::{Failure, Finding, are_accepted, report_of};
+use crate::script::judge;
+use crate::store::{Linkset, Outcome, Snapshot, Verdict, WorkKind, WorkName};
 use std::alloc::{AllocError, Global};
-use vd_base::Name;
+use vd_base::{List, Name, NameFault};
+
+fn main_name(alloc: Global) -> Result<Name, AllocError>
+    ensures { IfOk result (λ name. name ≡ codes "main") }
+{
+    match Name::new(alloc, b"main") {
+        Ok(name) => Ok(name),
+        Err(NameFault::NotName) => unreachable!(),
+        Err(NameFault::Memory(fault)) => Err(fault),
+    }
+}
+
+/// The works of a unit of the form, the body with this verdict.
+fn findings_of(alloc: Global, unit: &Name, body: Verdict) -> Result<List<Finding>, AllocError>
+    ensures { IfOk result (λ findings. findings ≡ findings_of unit.now body) }
+{
+    let header = Finding {
+        work: WorkName {
+            kind: WorkKind::Header,
+            owner: unit.copy(alloc)?,
+            function: None,
+        },
+        verdict: Verdict::Accepted,
+    };
+    let body = Finding {
+        work: WorkName {
+            kind: WorkKind::Body,
+            owner: unit.copy(alloc)?,
+            function: Some(main_name(alloc)?),
+        },
+        verdict: body,
+    };
+    let mut findings = List::new(alloc);
+    findings.push(header)?;
+    findings.push(body)?;
+    Ok(findings)
+}
+
+/// The link condition that fails.
+fn failure_of(alloc: Global, findings: &[Finding]) -> Option<Failure>
+    ensures { result ≡ failure_of findings.now }
+{
+    if are_accepted(findings) {
+        None
+    } else {
+        Some(Failure {
+            condition: 9,
+            words: List::new(alloc),
+        })
+    }
+}
+
+fn linkset_of(alloc: Global, pair: &Pair) -> Result<Linkset, AllocError>
+    ensures { IfOk result (λ set. set.parts ≡ linkset_of pair.now) }
+{
+    let mut parts = List::new(alloc);
+    parts.push((pair.link.copy(alloc)?, pair.link_version))?;
+    parts.push((pair.unit.name.copy(alloc)?, pair.unit_version))?;
+    Ok(Linkset { parts })
+}
+
+fn check_pair(alloc: Global, pair: &Pair, asked: &Name) -> Result<Outcome, AllocError>
+    ensures { IfOk result (Gives asked.now pair.now) }
+{
+    if !asked.is_same(&pair.link) {
+        return Ok(Outcome::NoLink);
+    }
+    let unit = &pair.unit;
+    let body = judge(
+        alloc,
+        &unit.spec.post,
+        &unit.typed,
+        unit.steps.as_slice(),
+    )?;
+    let findings = findings_of(alloc, &unit.name, body)?;
+    let findings = findings.as_slice();
+    let failure = failure_of(alloc, findings);
+    let report = report_of(alloc, findings, &pair.link, &failure)?;
+    if are_accepted(findings) {
+        let set = linkset_of(alloc, pair)?;
+        Ok(Outcome::Accepted(set, report))
+    } else {
+        Ok(Outcome::Rejected(report))
+    }
+}
+
+/// The unit and the link of the form, which may stand in either order.
+fn pair_of(alloc: Global, texts: &Snapshot) -> Result<Option<Pair>, AllocError>
+    ensures { IfOk result (λ found. MatchOption found (HasForm texts.now.texts → ⊥) (AreTexts texts.now.texts)) }
+{
+    let [first, second] = texts.texts.as_slice() else {
+        return Ok(None);
+    };
+    match read_pair(alloc, first, second)? {
+        Some(pair) => Ok(Some(pair)),
+        None => read_pair(alloc, second, first),
+    }
+}
 
 /// Checks the link over all texts at once, where they have the form that is checked today.
 pub fn try_scratch(
@@ -16,10 +117,13 @@ pub fn try_scratch(
 ) -> Result<Option<Outcome>, AllocError>
     ensures { IfOk result (λ found. MatchOption found (HasForm texts.now.texts → ⊥) (λ o. HasForm texts.now.texts × Scratches texts.now.texts link.now o)) }
 {
-    let _ = texts;
-    let _ = link;
-    let _ = alloc;
-    Err(AllocError)
+    match pair_of(alloc, texts)? {
+        Some(pair) => {
+            let outcome = check_pair(alloc, &pair, link)?;
+            Ok(Some(outcome))
+        }
+        None => Ok(None),
+    }
 }
 
 /// Checks the link over all texts at once.
