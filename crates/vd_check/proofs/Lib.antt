@@ -1,6 +1,7 @@
 pub mod Evaluating
 pub mod Forms
 pub mod NameLaws
+pub mod Orders
 pub mod Returns
 pub mod Safety
 pub mod Scripts
