@@ -2,10 +2,10 @@
 use Rattle.std.proofs.Common.{◌≡◌, inl, inr, ℕ, ◌≤◌, List, length, Some, None, refl, sym, ◌∙◌, subst, arith}
 use Rattle.vd_base.specs.Cause.{Rose}
 use Rattle.vd_base.specs.Shelf.{Holding, Absent, Holds}
-use Rattle.vd_app.specs.Answer.{Answer, HasForm, Answers, files_of, written_text}
+use Rattle.vd_app.specs.Answer.{Answer, HasForm, Answers, files_of}
 use Rattle.vd_app.specs.Call.{IsAnswered, IsOutside, PassesLimit, file_bytes, Means, status_of}
 use Rattle.vd_app.specs.Command.{Command, Check, Unbuilt, command_of}
-use Rattle.vd_app.specs.Completeness.{AnswersBy, IsComplete}
+use Rattle.vd_app.specs.Completeness.{IsComplete}
 use Rattle.vd_app.specs.Reading.{AreHeld, AreRead, IsReached, IsUnreadable, IsTooLong, file_limit}
 use Rattle.vd_app.specs.Seen.{ShelfSeen, SinkSeen}
 use Rattle.vd_app.specs.declared.ending.Ending.{Ending}

@@ -1,5 +1,5 @@
 -- What an ending says.
-use Rattle.std.proofs.Common.{◌≡◌, ◌⊎◌, inl, inr, ℕ, Bool, true, false, List, [], ◌∷◌, ◌++◌, Option, Some, Result, refl, ap, sym, subst, append-nil, codes}
+use Rattle.std.proofs.Common.{◌≡◌, ◌⊎◌, inl, inr, ℕ, true, false, List, [], ◌∷◌, ◌++◌, Some, Result, refl, sym, subst, append-nil, codes}
 use Rattle.vd_base.specs.Cause.{Rose}
 use Rattle.vd_base.specs.declared.sink.SinkFault.{SinkFault}
 use Rattle.vd_outline.specs.Lines.{joined}
@@ -43,6 +43,10 @@ memory_means words shelf out ending.Unbuilt m = inl m.1
 pub told_means : (words : List (List ℕ)) (shelf : ShelfSeen) (out : SinkSeen) (before after : Ending) → Means before words shelf out → (after ≡ before) ⊎ (after ≡ ending.Memory) → Means after words shelf out
 told_means words shelf out before after m (inl e) = subst (λ (x : Ending). Means x words shelf out) (sym e) m
 told_means words shelf out before after m (inr e) = subst (λ (x : Ending). Means x words shelf out) (sym e) (memory_means words shelf out before m)
+
+-- where a put fails the ending stays
+pub failed_puts : (line : List ℕ) (e : Ending) (err : SinkSeen) → AddsPrefix err line → Rose err.faults err.faults_after → PutsLine line e e err
+failed_puts line e err front rose = inl (refl, front, λ kept. absurd (kept rose))
 
 -- a put of the line of an ending tells the ending that comes of it
 pub puts_tell : (line : List ℕ) (before after : Ending) (err : SinkSeen) → error_line before ≡ Some line → PutsLine line before after err → TellsEnding after err

@@ -1,15 +1,11 @@
 -- A text has one head line, and two texts make one snapshot.
-use Rattle.std.proofs.Common.{◌≡◌, ◌↔◌, ◌⊎◌, inl, inr, ℕ, ◌+◌, Bool, true, false, ◌&&◌, not, ◌==◌, List, [], ◌∷◌, ◌++◌, codes, length, nat_le, slice_index, Some, MatchOption, refl, ap, sym, ◌∙◌, subst, arith}
+use Rattle.std.proofs.Common.{◌≡◌, ◌↔◌, ℕ, Bool, true, ◌&&◌, not, ◌==◌, List, [], ◌∷◌, ◌++◌, length, nat_le, slice_index, refl, ap, sym, ◌∙◌, arith}
 use Rattle.std.specs.Char.{is_ascii_digit}
 use Rattle.std.specs.List.{list_all}
 use Rattle.vd_base.specs.Name.{is_name, is_word_byte}
 use Rattle.vd_outline.specs.declared.outline.TextKind.{TextKind}
 use Rattle.vd_outline.specs.declared.outline.TextKind.TheVariants as kind
 use Rattle.vd_outline.specs.Outline.{HasHead, head_line, kind_word}
-use Rattle.vd_check.specs.declared.store.Outcome.{Outcome}
-use Rattle.vd_check.specs.Form as form
-use Rattle.vd_check.specs.Scratch.{Scratches}
-use Rattle.vd_app.specs.Answer.{AreCheckable, Checks, answer_of}
 use Rattle.vd_app.specs.Submission.{Entries, put, Submits}
 use Rattle.vd_app.proofs.Words.{both_left, both_right}
 

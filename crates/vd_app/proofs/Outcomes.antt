@@ -1,5 +1,5 @@
 -- The outcome of the snapshot that texts make.
-use Rattle.std.proofs.Common.{◌≡◌, ◌↔◌, ℕ, List, [], ◌∷◌, length, Option, Some, None, Result, Ok, Err, IfOk, MatchOption, refl, sym, subst, arith}
+use Rattle.std.proofs.Common.{◌≡◌, ◌↔◌, ℕ, List, [], ◌∷◌, Option, Some, None, Result, Ok, Err, IfOk, MatchOption, refl, sym, subst, arith}
 use Rattle.std.specs.declared.alloc.AllocError.{AllocError}
 use Rattle.vd_check.specs.declared.store.Outcome.{Outcome}
 use Rattle.vd_check.specs.Form as form
@@ -16,13 +16,9 @@ not_two (a ∷ (b ∷ (x ∷ texts))) none h = omega (arith, h.two)
 pub no_snapshot : (texts : List (List ℕ)) (first second : List ℕ) → texts ≡ first ∷ (second ∷ []) → ((entries : Entries) → Submits (first ∷ (second ∷ [])) entries → ⊥) → AreCheckable texts → ⊥
 no_snapshot texts first second e none h = none h.snapshot (subst (λ ts. Submits ts h.snapshot) e h.submits)
 
-pub OneSnapshot : List ℕ → List ℕ → Entries → Type 0
-OneSnapshot first second snapshot = (entries : Entries) → Submits (first ∷ (second ∷ [])) entries ↔ (entries ≡ snapshot)
-
-scratched : (link : List ℕ) (texts : List (List ℕ)) (first second : List ℕ) (snapshot : Entries) (found : Option Outcome) → texts ≡ first ∷ (second ∷ []) → OneSnapshot first second snapshot
+scratched : (link : List ℕ) (texts : List (List ℕ)) (first second : List ℕ) (snapshot : Entries) (found : Option Outcome) → texts ≡ first ∷ (second ∷ []) → ((entries : Entries) → Submits (first ∷ (second ∷ [])) entries ↔ (entries ≡ snapshot))
     → MatchOption found (form.HasForm snapshot → ⊥) (λ o. form.HasForm snapshot × Scratches snapshot link o)
     → MatchOption found (AreCheckable texts → ⊥) (λ o. Checks link texts (answer_of link o))
-unfolding OneSnapshot
 scratched link texts first second snapshot None e one outside = λ h.
     let submits : Submits (first ∷ (second ∷ [])) h.snapshot = subst (λ ts. Submits ts h.snapshot) e h.submits in
     outside (subst (λ (s : Entries). form.HasForm s) ((one h.snapshot).0 submits) h.has_form)
@@ -34,6 +30,5 @@ scratched link texts first second snapshot (Some o) e one given =
 pub checks_found : (link : List ℕ) (texts : List (List ℕ)) (first second : List ℕ) (snapshot : Entries) (result : Result (Option Outcome) AllocError) → texts ≡ first ∷ (second ∷ []) → ((entries : Entries) → Submits (first ∷ (second ∷ [])) entries ↔ (entries ≡ snapshot))
     → IfOk result (λ found. MatchOption found (form.HasForm snapshot → ⊥) (λ o. form.HasForm snapshot × Scratches snapshot link o))
     → IfOk result (λ found. MatchOption found (AreCheckable texts → ⊥) (λ o. Checks link texts (answer_of link o)))
-unfolding OneSnapshot
 checks_found link texts first second snapshot (Ok found) e one given = scratched link texts first second snapshot found e one given
 checks_found link texts first second snapshot (Err fault) e one given = given

@@ -1,7 +1,6 @@
 -- What a read of several files tells.
-use Rattle.std.proofs.Common.{suc, zero, Result, Ok, Err, OnOk, is_err, false, cond, ◌≡◌, ◌⊎◌, inl, inr, ℕ, ◌+◌, ◌<◌, ◌≤◌, List, [], ◌∷◌, ◌++◌, length, take, drop, refl, ap, sym, ◌∙◌, arith, subst}
-use Rattle.vd_base.specs.Cause.{Rose, RoseBy}
-use Rattle.vd_base.specs.Shelf.{Holding, Absent, Holds, Agrees}
+use Rattle.std.proofs.Common.{suc, Result, Ok, Err, OnOk, is_err, false, ◌≡◌, inl, inr, ℕ, ◌≤◌, List, [], ◌∷◌, ◌++◌, length, take, drop, refl, sym, ◌∙◌, arith, subst}
+use Rattle.vd_base.specs.Shelf.{Holding, Holds, Agrees}
 use Rattle.vd_app.specs.Reading.{AreHeld, AreRead, IsReached, IsUnreadable, IsTooLong, file_limit}
 use Rattle.vd_app.specs.Seen.{ShelfSeen}
 use Rattle.vd_app.specs.Steps.{FileStops, ReadStops}

@@ -1,7 +1,6 @@
 -- What several writes leave.
-use Rattle.std.proofs.Common.{suc, zero, ◌≡◌, ℕ, ◌+◌, ◌<◌, ◌≤◌, List, [], ◌∷◌, ◌++◌, length, get_or, take, drop, Option, None, Some, option_map, Ok, Err, Result, refl, ap, sym, ◌∙◌, append_assoc, append-nil, drop-cons, arith, subst}
+use Rattle.std.proofs.Common.{suc, zero, ◌≡◌, ℕ, ◌<◌, ◌≤◌, List, [], ◌∷◌, ◌++◌, length, get_or, take, drop, Option, None, Some, option_map, Ok, Err, Result, refl, ap, sym, ◌∙◌, append_assoc, append-nil, drop-cons, arith, subst}
 use Rattle.std.proofs.lemmas.List.{take-append-drop}
-use Rattle.vd_base.specs.Cause.{Rose}
 use Rattle.vd_base.specs.Sink.{Added, Puts}
 use Rattle.vd_outline.specs.Lines.{joined}
 use Rattle.vd_base.specs.declared.sink.SinkFault.{SinkFault}

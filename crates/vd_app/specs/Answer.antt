@@ -1,5 +1,5 @@
 -- What a command answers of the texts that its files hold.
-use Rattle.std.specs.Prelude.{◌≡◌, ℕ, Bool, true, false, List, [], ◌∷◌, ◌++◌, codes, length}
+use Rattle.std.specs.Prelude.{◌≡◌, Bool, true, false, List, [], ◌∷◌, ◌++◌, codes, length}
 use Rattle.vd_outline.specs.Lines.{joined}
 use Rattle.vd_check.specs.declared.store.Outcome.{Outcome}
 use Rattle.vd_check.specs.declared.store.Outcome.TheVariants as outcome

@@ -1,7 +1,7 @@
 -- How a call of the program ends: what each status means, what was written, and why.
 use Rattle.std.specs.Prelude.{◌≡◌, ◌⊎◌, ℕ, Bool, true, false, List, ◌∷◌, ◌++◌, Option, None, Some, codes, decimal}
 use Rattle.vd_base.specs.Cause.{Rose}
-use Rattle.vd_app.specs.Command.{Bytes, CommandLine, Command, Check, Unbuilt, command_of}
+use Rattle.vd_app.specs.Command.{Bytes, CommandLine, Command, Unbuilt, command_of}
 use Rattle.vd_app.specs.Answer.{Answer, HasForm, Answers, files_of, written_text}
 use Rattle.vd_app.specs.Reading.{AreRead, IsReached, IsUnreadable, IsTooLong, file_limit}
 use Rattle.vd_app.specs.Seen.{ShelfSeen, SinkSeen, IsUnread, IsUntouched, Adds, AddsPrefix}

@@ -1,5 +1,5 @@
 -- When a call answers by the definitions.
-use Rattle.std.specs.Prelude.{◌≡◌, ◌⊎◌, ℕ, Bool, true, false, List, Some, if◌then◌else◌}
+use Rattle.std.specs.Prelude.{◌≡◌, ◌⊎◌, ℕ, List, Some, if◌then◌else◌}
 use Rattle.vd_base.specs.Cause.{Rose}
 use Rattle.vd_app.specs.Command.{Bytes, CommandLine, Command, command_of}
 use Rattle.vd_app.specs.Answer.{Answer, HasForm, Answers, files_of, written_text}

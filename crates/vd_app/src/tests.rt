@@ -54,11 +54,11 @@ fn long(alloc: Global, length: usize) -> Result<Text, AllocError> {
     Ok(Text::from_vec(bytes))
 }
 
-// Runs the words over u.txt, which holds the unit, l.txt, full.txt, which has as many bytes as a file may have, and
-// long.txt, which has one more.
-fn run(alloc: Global, words: &[&str], unit: &str, failing: Failing) -> Result<Ran, AllocError> {
+// Runs the words, which are set apart by single spaces, over u.txt, which holds the unit, l.txt, full.txt, which has as
+// many bytes as a file may have, and long.txt, which has one more.
+fn run(alloc: Global, words: &str, unit: &str, failing: Failing) -> Result<Ran, AllocError> {
     let mut all = Vec::new(alloc);
-    for word in words {
+    for word in words.split(' ') {
         all.push(String::from_str(alloc, word)?)?;
     }
     let mut files = List::new(alloc);
@@ -83,76 +83,41 @@ fn faults_of_words_and_files(rt: HostRuntime) -> Result<(), Fail> {
     let unbuilt = "desk: unbuilt\n";
     let limit = "desk: limit long.txt 1048576\n";
     let cases = [
-        ([].as_slice(), NONE, 2, usage),
-        (["check"].as_slice(), NONE, 2, usage),
-        (["check", "l"].as_slice(), NONE, 2, usage),
-        (["check", "l", ""].as_slice(), NONE, 2, usage),
-        (["check", "0l", "u.txt"].as_slice(), NONE, 2, usage),
-        (["verify", "l", "u.txt"].as_slice(), NONE, 2, usage),
-        (["check", "l"].as_slice(), silent, 2, ""),
+        ("", NONE, 2, usage),
+        ("check", NONE, 2, usage),
+        ("check l", NONE, 2, usage),
+        ("check l ", NONE, 2, usage),
+        ("check 0l u.txt", NONE, 2, usage),
+        ("verify l u.txt", NONE, 2, usage),
+        ("check l", silent, 2, ""),
+        ("check l m.txt l.txt", NONE, 3, "desk: cannot read m.txt\n"),
+        ("check l u.txt m.txt", NONE, 3, "desk: cannot read m.txt\n"),
+        ("check l u.txt l.txt", first, 3, "desk: cannot read u.txt\n"),
         (
-            ["check", "l", "m.txt", "l.txt"].as_slice(),
-            NONE,
-            3,
-            "desk: cannot read m.txt\n",
-        ),
-        (
-            ["check", "l", "u.txt", "m.txt"].as_slice(),
-            NONE,
-            3,
-            "desk: cannot read m.txt\n",
-        ),
-        (
-            ["check", "l", "u.txt", "l.txt"].as_slice(),
-            first,
-            3,
-            "desk: cannot read u.txt\n",
-        ),
-        (
-            ["check", "l", "u.txt", "l.txt"].as_slice(),
+            "check l u.txt l.txt",
             second,
             3,
             "desk: cannot read l.txt\n",
         ),
+        ("check l long.txt l.txt", NONE, 6, limit),
+        ("check l u.txt long.txt", NONE, 6, limit),
+        ("check l long.txt m.txt", NONE, 6, limit),
         (
-            ["check", "l", "long.txt", "l.txt"].as_slice(),
-            NONE,
-            6,
-            limit,
-        ),
-        (
-            ["check", "l", "u.txt", "long.txt"].as_slice(),
-            NONE,
-            6,
-            limit,
-        ),
-        (
-            ["check", "l", "long.txt", "m.txt"].as_slice(),
-            NONE,
-            6,
-            limit,
-        ),
-        (
-            ["check", "l", "m.txt", "long.txt"].as_slice(),
+            "check l m.txt long.txt",
             NONE,
             3,
             "desk: cannot read m.txt\n",
         ),
-        (["check", "l", "u.txt"].as_slice(), NONE, 8, unbuilt),
-        (
-            ["check", "l", "u.txt", "l.txt", "l.txt"].as_slice(),
-            NONE,
-            8,
-            unbuilt,
-        ),
-        (["session"].as_slice(), NONE, 8, unbuilt),
-        (["play", "l", "s.txt", "u.txt"].as_slice(), NONE, 8, unbuilt),
-        (["audit", "j"].as_slice(), NONE, 8, unbuilt),
-        (["gen", "2", "7"].as_slice(), NONE, 8, unbuilt),
+        ("check l u.txt", NONE, 8, unbuilt),
+        ("check l u.txt l.txt l.txt", NONE, 8, unbuilt),
+        ("session", NONE, 8, unbuilt),
+        ("play l s.txt u.txt", NONE, 8, unbuilt),
+        ("audit j", NONE, 8, unbuilt),
+        ("gen 2 7", NONE, 8, unbuilt),
     ];
     for (words, failing, status, err) in cases {
         let ran = run(rt.alloc(), words, UNIT, failing)?;
-        assert_eq!(rt; ran.status, status, "at {words:?}");
+        assert_eq!(rt; ran.status, status, "at {words}");
         assert_eq!(rt; ran.out.bytes(), b"".as_slice());
         assert_eq!(rt; ran.err.bytes(), err.as_bytes());
     }
@@ -162,11 +127,7 @@ fn faults_of_words_and_files(rt: HostRuntime) -> Result<(), Fail> {
 // Checks of two files: the words, the unit, what fails, the status, the output, and the error stream.
 #[test]
 fn checks_of_two_files(rt: HostRuntime) -> Result<(), Fail> {
-    let both = ["check", "l", "u.txt", "l.txt"];
-    let swapped = ["check", "l", "l.txt", "u.txt"];
-    let other = ["check", "zz", "u.txt", "l.txt"];
-    let same = ["check", "l", "l.txt", "l.txt"];
-    let full = ["check", "l", "u.txt", "full.txt"];
+    let both = "check l u.txt l.txt";
     let first = Failing { write: 1, ..NONE };
     let second = Failing { write: 2, ..NONE };
     let third = Failing { write: 3, ..NONE };
@@ -175,28 +136,35 @@ fn checks_of_two_files(rt: HostRuntime) -> Result<(), Fail> {
     let overflow = "header u ok\nbody u main refused 2 2 3\nlink l refused 9\n";
     let unwritten = "desk: cannot write\n";
     let cases = [
-        (both.as_slice(), UNIT, NONE, 0, ACCEPTED, ""),
-        (swapped.as_slice(), UNIT, NONE, 0, ACCEPTED, ""),
-        (both.as_slice(), UNIT, silent, 0, ACCEPTED, ""),
-        (both.as_slice(), WRONG_RESULT, NONE, 1, wrong, ""),
-        (both.as_slice(), OVERFLOW, NONE, 1, overflow, ""),
-        (other.as_slice(), UNIT, NONE, 1, "no link zz\n", ""),
-        (both.as_slice(), UNIT, first, 4, "", unwritten),
-        (both.as_slice(), UNIT, second, 4, "header u ok\n", unwritten),
+        (both, UNIT, NONE, 0, ACCEPTED, ""),
+        ("check l l.txt u.txt", UNIT, NONE, 0, ACCEPTED, ""),
+        (both, UNIT, silent, 0, ACCEPTED, ""),
+        (both, WRONG_RESULT, NONE, 1, wrong, ""),
+        (both, OVERFLOW, NONE, 1, overflow, ""),
+        ("check zz u.txt l.txt", UNIT, NONE, 1, "no link zz\n", ""),
+        (both, UNIT, first, 4, "", unwritten),
+        (both, UNIT, second, 4, "header u ok\n", unwritten),
         (
-            both.as_slice(),
+            both,
             UNIT,
             third,
             4,
             "header u ok\nbody u main ok\n",
             unwritten,
         ),
-        (same.as_slice(), UNIT, NONE, 8, "", "desk: unbuilt\n"),
-        (full.as_slice(), UNIT, NONE, 8, "", "desk: unbuilt\n"),
+        ("check l l.txt l.txt", UNIT, NONE, 8, "", "desk: unbuilt\n"),
+        (
+            "check l u.txt full.txt",
+            UNIT,
+            NONE,
+            8,
+            "",
+            "desk: unbuilt\n",
+        ),
     ];
     for (words, unit, failing, status, out, err) in cases {
         let ran = run(rt.alloc(), words, unit, failing)?;
-        assert_eq!(rt; ran.status, status, "at {words:?}");
+        assert_eq!(rt; ran.status, status, "at {words}");
         assert_eq!(rt; ran.out.bytes(), out.as_bytes());
         assert_eq!(rt; ran.err.bytes(), err.as_bytes());
     }

@@ -1,7 +1,7 @@
-use Rattle.std.proofs.Common.{◌≡◌, Some, map, string_bytes}
+use Rattle.std.proofs.Common.{map, string_bytes}
 use Rattle.vd_app.specs.Answer.{Checks, answer_of}
 use Rattle.vd_app.specs.Call.{IsAnswered}
-use Rattle.vd_app.specs.Command.{Check, command_of}
+use Rattle.vd_app.specs.Command.{Check}
 use Rattle.vd_app.specs.Seen.{ShelfSeen, SinkSeen}
 use Rattle.vd_app.proofs.Endings.{finish_means}
 use Rattle.vd_app.proofs.check.check.Goals as goal

@@ -1,7 +1,6 @@
-use Rattle.std.proofs.Common.{◌≡◌, ap}
+use Rattle.std.proofs.Common.{ap}
 use Rattle.vd_app.specs.Call.{error_line}
 use Rattle.vd_app.specs.Seen.{SinkSeen}
-use Rattle.vd_app.specs.declared.ending.Ending.{Ending}
 use Rattle.vd_app.proofs.Endings.{puts_tell, puts_keep}
 use Rattle.vd_app.proofs.ending.tell.Goals as goal
 

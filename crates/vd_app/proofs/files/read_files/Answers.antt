@@ -1,6 +1,5 @@
-use Rattle.std.proofs.Common.{◌≡◌, ◌≤◌, ◌∙◌, ◌++◌, ◌∷◌, [], map, string_bytes, add-one, arith, subst, sym, take, length}
+use Rattle.std.proofs.Common.{◌≡◌, ◌∙◌, ◌++◌, ◌∷◌, [], map, string_bytes, add-one, arith, subst, sym, take}
 use Rattle.vd_base.specs.Shelf.{Agrees}
-use Rattle.vd_app.specs.Reading.{file_limit}
 use Rattle.vd_app.proofs.ReadLaws.{files_stop, read_more, on_ok}
 use Rattle.vd_app.proofs.Words.{parted, taken}
 use Rattle.vd_app.proofs.files.read_files.Goals as goal

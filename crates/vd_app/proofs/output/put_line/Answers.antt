@@ -1,4 +1,4 @@
-use Rattle.std.proofs.Common.{◌≡◌, ◌∙◌, ◌++◌, ◌∷◌, []}
+use Rattle.std.proofs.Common.{◌∙◌, ◌++◌, ◌∷◌, []}
 use Rattle.vd_app.proofs.Writing.{put_writes}
 use Rattle.vd_app.proofs.output.put_line.Goals as goal
 

@@ -1,4 +1,4 @@
-use Rattle.std.proofs.Common.{◌≡◌, ◌≤◌, ◌++◌, ◌∷◌, [], arith, take, add-one}
+use Rattle.std.proofs.Common.{◌++◌, ◌∷◌, [], arith, take, add-one}
 use Rattle.vd_outline.specs.Lines.{joined}
 use Rattle.vd_app.proofs.Writing.{lines_stop, joined_more, added_more}
 use Rattle.vd_app.proofs.output.put_lines.Goals as goal

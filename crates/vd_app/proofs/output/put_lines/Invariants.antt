@@ -1,4 +1,4 @@
-use Rattle.std.proofs.Common.{◌≡◌, ◌≤◌, take}
+use Rattle.std.proofs.Common.{◌≤◌, take}
 use Rattle.vd_base.specs.Sink.{Added}
 use Rattle.vd_outline.specs.Lines.{joined}
 use Rattle.vd_app.proofs.output.put_lines.Given as goal

@@ -1,4 +1,4 @@
-use Rattle.std.proofs.Common.{◌≡◌, List, ℕ, map, string_bytes}
+use Rattle.std.proofs.Common.{List, ℕ, map, string_bytes}
 use Rattle.vd_app.specs.Call.{Means}
 use Rattle.vd_app.specs.Seen.{ShelfSeen, SinkSeen}
 use Rattle.vd_app.proofs.Completing.{complete}
