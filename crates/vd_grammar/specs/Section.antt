@@ -60,11 +60,13 @@ module _ (G : Grammar) (N : Nesting G) (place : G.Token → ℕ) where
     at_deep : {is_text : Bool} {end at : ℕ} {front : Tokens G} (next : G.Token) (rest : Tokens G) → ts ≡ front ++ next ∷ rest → IsShallow G N front → N.limit ≤ nesting G N (front ++ next ∷ []) → at ≡ place next
         → IsCut ts is_text end front cause.Deep at
 
-  -- the answer, where the tokens end at a place
-  abbrev pub answer_at : {S : G.Sort} → Result (G.Value S) (Tokens G) → Cause → ℕ → Result (G.Value S) ParseFault
-  answer_at (Ok v) cause.Text at = Ok v
-  answer_at (Ok v) cause.Unknown at = Err (Bad at)
-  answer_at (Ok v) cause.Deep at = Err (Deep at)
-  answer_at (Err (t ∷ rest)) why at = Err (Bad (place t))
-  answer_at (Err []) cause.Deep at = Err (Deep at)
-  answer_at (Err []) why at = Err (Bad at)
+  -- No token is left, and the text ends.
+  abbrev pub is_whole : Tokens G → Cause → Bool
+  is_whole [] cause.Text = true
+  is_whole _ _ = false
+
+  -- the fault at the next token, or where the tokens end at a place
+  abbrev pub fault_at : Tokens G → Cause → ℕ → ParseFault
+  fault_at (t ∷ rest) why at = Bad (place t)
+  fault_at [] cause.Deep at = Deep at
+  fault_at [] _ at = Bad at

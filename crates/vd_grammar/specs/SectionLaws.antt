@@ -6,12 +6,13 @@ use Rattle.vd_grammar.specs.declared.fault.ParseFault.TheVariants.{Bad, Deep, Me
 use Rattle.vd_grammar.specs.declared.fault.Cause.{Cause}
 use Rattle.vd_grammar.specs.declared.fault.Cause.TheVariants as cause
 use Rattle.vd_grammar.specs.Grammar.{Grammar, Tokens, Is, Begins}
-use Rattle.vd_grammar.specs.Whole.{whole, Refuses}
+use Rattle.vd_grammar.specs.Reading.{read}
+use Rattle.vd_grammar.specs.Whole.{Refuses}
 use Rattle.vd_grammar.specs.Nesting.{Nesting, state_from, state_of, nesting, IsShallow}
-use Rattle.vd_grammar.specs.Section.{place_or, CannotFollow, IsSection, IsBadAt, IsDeepAt, Answers, IsCut, whole_text, at_unknown, at_deep, answer_at}
+use Rattle.vd_grammar.specs.Section.{place_or, CannotFollow, IsSection, IsBadAt, IsDeepAt, Answers, IsCut, whole_text, at_unknown, at_deep, is_whole, fault_at}
 use Rattle.vd_grammar.specs.Tables.{Laws}
 use Rattle.vd_grammar.specs.Lists.{Fronts, same, first_ends, second_ends, two_fronts, SnocCut, behind, before, snoc_cut}
-use Rattle.vd_grammar.specs.Exact.{begins_next, whole_sound, whole_refuses, one_value}
+use Rattle.vd_grammar.specs.Exact.{begins_next, one_value, read_is_whole, left_refuses, stop_refuses}
 
 module _ (G : Grammar) (N : Nesting G) where
   -- ---- nesting
@@ -124,23 +125,36 @@ module _ (G : Grammar) (N : Nesting G) where
         place_is = refl;
       }
 
+      token_answer : (ts ms : Tokens G) (is_text : Bool) (end at : ℕ) (why : Cause) (t : G.Token) (rest : Tokens G) → IsCut G N place ts is_text end ms why at → Refuses G S ms (t ∷ rest) → IsBadAt G N place S ts is_text end (place t)
+      token_answer ts ms is_text end at why t rest (whole_text s) r = bad_token ts ts [] true end t rest (sym (append-nil ts)) s r
+      token_answer ts ms is_text end at why t rest (at_unknown s) r = bad_token ts ts [] false end t rest (sym (append-nil ts)) s r
+      token_answer ts ms is_text end at why t rest (at_deep next others c s d p) r = bad_token ts ms (next ∷ others) is_text end t rest c s r
+
       deep_next : (ts ms others : Tokens G) (next : G.Token) (at : ℕ) → ts ≡ ms ++ next ∷ others → IsShallow G N ms → N.limit ≤ nesting G N (ms ++ next ∷ []) → at ≡ place next → Begins G S ms → IsDeepAt G N place S ts at
       deep_next ts ms others next at e s d p b = record { front = ms; next = next; rest = others; cut = e; begins = b; shallow = s; deep = d; place_is = p }
 
-      by_whole : (ts ms : Tokens G) (is_text : Bool) (end at : ℕ) (why : Cause) → IsCut G N place ts is_text end ms why at → (o : Result (G.Value S) (Tokens G)) → whole G S ms ≡ o → Answers G N place S ts is_text end (answer_at G N place o why at)
-      by_whole ts ms is_text end at why (whole_text s) (Ok v) h = record { is = whole_sound G L S may_end ts v h; ends = refl; shallow = s }
-      by_whole ts ms is_text end at why (whole_text s) (Err []) h = bad_end ts end s (whole_refuses G L S may_end ts [] h)
-      by_whole ts ms is_text end at why (whole_text s) (Err (t ∷ rest)) h = bad_token ts ts [] true end t rest (sym (append-nil ts)) s (whole_refuses G L S may_end ts (t ∷ rest) h)
-      by_whole ts ms is_text end at why (at_unknown s) (Ok v) h = bad_unknown ts end s (value_begins ts v (whole_sound G L S may_end ts v h))
-      by_whole ts ms is_text end at why (at_unknown s) (Err []) h = bad_unknown ts end s (none_left_begins ts (whole_refuses G L S may_end ts [] h))
-      by_whole ts ms is_text end at why (at_unknown s) (Err (t ∷ rest)) h = bad_token ts ts [] false end t rest (sym (append-nil ts)) s (whole_refuses G L S may_end ts (t ∷ rest) h)
-      by_whole ts ms is_text end at why (at_deep next others e s d p) (Ok v) h = deep_next ts ms others next at e s d p (value_begins ms v (whole_sound G L S may_end ms v h))
-      by_whole ts ms is_text end at why (at_deep next others e s d p) (Err []) h = deep_next ts ms others next at e s d p (none_left_begins ms (whole_refuses G L S may_end ms [] h))
-      by_whole ts ms is_text end at why (at_deep next others e s d p) (Err (t ∷ rest)) h = bad_token ts ms (next ∷ others) is_text end t rest e s (whole_refuses G L S may_end ms (t ∷ rest) h)
+      -- Where all tokens up to the cut are read, the text is the section.
+      pub section_answer : (ts ms : Tokens G) (is_text : Bool) (end at : ℕ) (why : Cause) (v : G.Value S) (rest : Tokens G) → IsCut G N place ts is_text end ms why at → read G S ms ≡ Ok (v, rest) → is_whole G N place rest why ≡ true
+          → Answers G N place S ts is_text end (Ok v)
+      section_answer ts ms is_text end at why v [] (whole_text s) h e = record { is = read_is_whole G L S may_end ts v [] h refl; ends = refl; shallow = s }
+      section_answer ts ms is_text end at why v [] (at_unknown s) h e = cc
+      section_answer ts ms is_text end at why v [] (at_deep next others c s d p) h e = cc
+      section_answer ts ms is_text end at why v (t ∷ rest) c h e = cc
 
-      -- What the tokens up to the cut are as a whole gives the answer.
-      pub answers : (ts ms : Tokens G) (is_text : Bool) (end at : ℕ) (why : Cause) → IsCut G N place ts is_text end ms why at → Answers G N place S ts is_text end (answer_at G N place (whole G S ms) why at)
-      answers ts ms is_text end at why c = by_whole ts ms is_text end at why c (whole G S ms) refl
+      -- Where tokens up to the cut are left, or the text goes on, the fault is at what comes next.
+      pub left_answer : (ts ms : Tokens G) (is_text : Bool) (end at : ℕ) (why : Cause) (v : G.Value S) (rest : Tokens G) → IsCut G N place ts is_text end ms why at → read G S ms ≡ Ok (v, rest) → is_whole G N place rest why ≡ false
+          → Answers G N place S ts is_text end (Err (fault_at G N place rest why at))
+      left_answer ts ms is_text end at why v [] (whole_text s) h e = cc
+      left_answer ts ms is_text end at why v [] (at_unknown s) h e = bad_unknown ts end s (value_begins ts v (read_is_whole G L S may_end ts v [] h refl))
+      left_answer ts ms is_text end at why v [] (at_deep next others c s d p) h e = deep_next ts ms others next at c s d p (value_begins ms v (read_is_whole G L S may_end ms v [] h refl))
+      left_answer ts ms is_text end at why v (t ∷ rest) c h e = token_answer ts ms is_text end at why t rest c (left_refuses G L S may_end ms v (t ∷ rest) h refl)
+
+      -- Where reading stops, the fault is at what comes next.
+      pub stop_answer : (ts ms : Tokens G) (is_text : Bool) (end at : ℕ) (why : Cause) (rest : Tokens G) → IsCut G N place ts is_text end ms why at → read G S ms ≡ Err rest → Answers G N place S ts is_text end (Err (fault_at G N place rest why at))
+      stop_answer ts ms is_text end at why [] (whole_text s) h = bad_end ts end s (stop_refuses G L S may_end ts [] h)
+      stop_answer ts ms is_text end at why [] (at_unknown s) h = bad_unknown ts end s (none_left_begins ts (stop_refuses G L S may_end ts [] h))
+      stop_answer ts ms is_text end at why [] (at_deep next others c s d p) h = deep_next ts ms others next at c s d p (none_left_begins ms (stop_refuses G L S may_end ms [] h))
+      stop_answer ts ms is_text end at why (t ∷ rest) c h = token_answer ts ms is_text end at why t rest c (stop_refuses G L S may_end ms (t ∷ rest) h)
 
       -- ---- there is one answer
 
