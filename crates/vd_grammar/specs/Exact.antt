@@ -4,6 +4,7 @@ use Rattle.std.proofs.lemmas.List.{append-nil}
 use Rattle.vd_grammar.specs.Outcome.{Outcome}
 use Rattle.vd_grammar.specs.Grammar.{Grammar, Tokens, kind_of, Is, Begins}
 use Rattle.vd_grammar.specs.Reading.{by_choice, read}
+use Rattle.vd_grammar.specs.Lists.{Fronts, same, first_ends, second_ends, two_fronts}
 use Rattle.vd_grammar.specs.Whole.{is_empty, all_read, whole, HasFront, IsRefused, Refuses}
 use Rattle.vd_grammar.specs.Tables.{Laws}
 use Rattle.vd_grammar.specs.Descent.{ReadsSort, StopsSort, front_of_sort, same_sort, no_read_stop_sort}
@@ -24,23 +25,6 @@ all_read-err : {Token A : Type 0} (o : Outcome Token A) (rest : List Token) → 
 all_read-err (Ok (w, [])) rest h = cc
 all_read-err (Ok (w, t ∷ ts)) rest h = leaves w t ts (let e : t ∷ ts ≡ rest = cc in sym e) refl
 all_read-err (Err us) rest h = stops (let e : us ≡ rest = cc in ap Err e)
-
--- how two fronts of one list lie
-data Fronts {A : Type 0} (xs us ys ws : List A) : Type 0 where
-  same : us ≡ ws → Fronts xs us ys ws
-  first_ends : (t : A) (more : List A) → us ≡ t ∷ (more ++ ws) → ys ≡ xs ++ t ∷ more → Fronts xs us ys ws
-  second_ends : (t : A) (more : List A) → ws ≡ t ∷ (more ++ us) → xs ≡ ys ++ t ∷ more → Fronts xs us ys ws
-
-fronts_behind : {A : Type 0} {xs us ys ws : List A} (x y : A) → x ≡ y → Fronts xs us ys ws → Fronts (x ∷ xs) us (y ∷ ys) ws
-fronts_behind x y e (same h) = same h
-fronts_behind x y e (first_ends t more h g) = first_ends t more h (cc)
-fronts_behind x y e (second_ends t more h g) = second_ends t more h (cc)
-
-two_fronts : {A : Type 0} (xs us ys ws : List A) → xs ++ us ≡ ys ++ ws → Fronts xs us ys ws
-two_fronts [] us [] ws h = same h
-two_fronts [] us (y ∷ ys) ws h = first_ends y ys h refl
-two_fronts (x ∷ xs) us [] ws h = second_ends x xs (sym h) refl
-two_fronts (x ∷ xs) us (y ∷ ys) ws h = let e : xs ++ us ≡ ys ++ ws = cc in fronts_behind x y (cc) (two_fronts xs us ys ws e)
 
 module _ (G : Grammar) (L : Laws G) where
   -- The equation by which the code reads: a sort is read by the rule that the next token chooses.
@@ -128,7 +112,7 @@ module _ (G : Grammar) (L : Laws G) where
     pub whole_refuses : (ts rest : Tokens G) → whole G S ts ≡ Err rest → Refuses G S ts rest
     whole_refuses ts rest h = refuses_fault ts rest (all_read-err (read G S ts) rest h)
 
-    begins_next : (front : Tokens G) (t : G.Token) (more : Tokens G) → Begins G S (front ++ t ∷ more) → Begins G S (front ++ t ∷ [])
+    pub begins_next : (front : Tokens G) (t : G.Token) (more : Tokens G) → Begins G S (front ++ t ∷ more) → Begins G S (front ++ t ∷ [])
     begins_next front t more b = record {
       more = more ++ b.more;
       value = b.value;
@@ -141,7 +125,7 @@ module _ (G : Grammar) (L : Laws G) where
         r (begins_next xs t more (subst (Begins G S) h b))
 
     one_rest : (ts rest others : Tokens G) (r : Refuses G S ts rest) (q : Refuses G S ts others) → Fronts r.front rest q.front others → rest ≡ others
-    one_rest ts rest others r q (same h) = h
+    one_rest ts rest others r q (same e h) = h
     one_rest ts rest others r q (first_ends t more e h) = absurd (not_further r.front rest t more q.front others e h r.refused q.begins)
     one_rest ts rest others r q (second_ends t more e h) = absurd (not_further q.front others t more r.front rest e h q.refused r.begins)
 

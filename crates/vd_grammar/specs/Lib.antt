@@ -3,10 +3,14 @@ pub mod Grammar
 pub mod Reading
 pub mod Reads
 pub mod Whole
+pub mod Nesting
+pub mod Section
 pub mod Tables
+pub mod Lists
 pub mod Checks
 pub mod Descent
 pub mod Fronts
 pub mod Completeness
 pub mod Exact
 pub mod Loops
+pub mod SectionLaws
