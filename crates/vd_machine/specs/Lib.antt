@@ -10,3 +10,4 @@ pub mod Safe
 pub mod Start
 pub mod Step
 pub mod Thread
+pub mod Turns

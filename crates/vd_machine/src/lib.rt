@@ -7,6 +7,7 @@ mod effect;
 mod evaluate;
 mod frame;
 mod statement;
+mod turn;
 mod word;
 
 pub use answer::{Cause, End, Outcome, Spot, Stepped, Turn};
