@@ -1,6 +1,6 @@
 -- A turn of one thread among others, by what its step did.
 use Rattle.std.proofs.Common.{◌≡◌, ◌≢◌, ℕ, zero, suc, ◌<◌, Bool, List, [], ◌∷◌, ◌++◌, length, get_or, slice_set, map, Option, Some, None, refl, sym, ◌∙◌, ap, ap₂, arith}
-use Rattle.std.specs.Prelude.{slice_get}
+use Rattle.std.specs.Prelude.{slice_get, Result, Ok, Err, OnErr}
 use Rattle.std.specs.Option.{option_map}
 use Rattle.std.proofs.lemmas.Option.{slice_get_read, slice_get-map}
 use Rattle.vd_clight.specs.declared.program.Program.{Program}
@@ -97,3 +97,8 @@ stays xs n m m' t u l e same kept =
 pub leaves_ended : (xs : List (Option KeptThread)) (n : ℕ) (u : KeptThread) (m m' : List Block) → m' ≡ m →
     system_of (slice_set (slice_set xs n (Some u)) n None) m' ≡ set_thread (system_of xs m) n Ended
 leaves_ended = ended_is
+
+-- a fact that holds holds of an error
+pub on_err : {T E : Type 0} (r : Result T E) (P : Type 0) → P → OnErr r P
+on_err (Ok x) P p = tt
+on_err (Err e) P p = p
