@@ -1,6 +1,7 @@
 pub mod Arithmetic
 pub mod Evaluation
 pub mod Frames
+pub mod Inside
 pub mod Kept
 pub mod Machine
 pub mod Race
@@ -10,3 +11,4 @@ pub mod Safe
 pub mod Start
 pub mod Step
 pub mod Thread
+pub mod Turns
