@@ -14,3 +14,6 @@ pub use form::{LinkParts, Pair, UnitParts};
 pub use report::{Failure, Finding};
 pub use store::{Linkset, Outcome, Report, Snapshot, Verdict, WorkKind, WorkName};
 pub use whole::{scratch, try_scratch};
+
+#[cfg(test)]
+mod tests;
