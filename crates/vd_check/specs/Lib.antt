@@ -1,6 +1,7 @@
 pub mod Effect
 pub mod Evaluated
 pub mod Form
+pub mod Laws
 pub mod NameTable
 pub mod Report
 pub mod Scratch

@@ -2,6 +2,7 @@
 #![tactic(auto)]
 
 mod form;
+mod laws;
 mod names;
 mod report;
 mod script;
@@ -11,6 +12,7 @@ mod value;
 mod whole;
 
 pub use form::{LinkParts, Pair, UnitParts};
+pub use laws::check_laws;
 pub use report::{Failure, Finding};
 pub use store::{Linkset, Outcome, Report, Snapshot, Verdict, WorkKind, WorkName};
 pub use whole::{scratch, try_scratch};
