@@ -2,6 +2,8 @@ pub mod Evaluating
 pub mod Forms
 pub mod NameLaws
 pub mod Orders
+pub mod OutcomeLaws
+pub mod Promising
 pub mod Returns
 pub mod Safety
 pub mod Scripts

@@ -1,43 +1,38 @@
--- A body has one verdict.
-use Rattle.std.proofs.Common.{◌≡◌, ℕ, ◌+◌, List, [], ◌∷◌, refl, sym, ap, ◌∙◌, subst}
-use Rattle.vd_clight.specs.declared.typed.TypedFn.{TypedFn}
+-- A script gives one verdict: it is a function of the script.
+use Rattle.std.proofs.Common.{◌≡◌, ℕ, ◌+◌, List, [], ◌∷◌, refl, ap, sym, ◌∙◌}
 use Rattle.vd_logic.specs.declared.assertion.Assertion.{Assertion}
 use Rattle.vd_logic.specs.declared.step.Step.{Step}
 use Rattle.vd_check.specs.declared.store.Verdict.{Verdict}
 use Rattle.vd_check.specs.declared.store.Verdict.TheVariants.{Accepted, Refused as RefusedAt}
-use Rattle.vd_check.specs.Script.{Node, Applied, Children, Refused, apply, rule_of, shown, IsGood, ends, goes, Fails, lacks, refused, extra, later, entry, HasVerdict}
+use Rattle.vd_check.specs.Laws.{OneVerdict}
+use Rattle.vd_check.specs.Script.{Node, Applied, Children, Refused, IsGood, ends, goes, Fails, lacks, refused, extra, later, HasVerdictFrom, apply, rule_of, shown, entry}
 
--- the two refusals are the same
-record Same (k k' r r' c c' : ℕ) : Type 0 where
-  number : k ≡ k'
-  rule : r ≡ r'
-  condition : c ≡ c'
+abbrev behind : Step → List Step → Verdict
+behind s [] = Accepted
+behind s (t ∷ ts) = RefusedAt t.number 0 11
 
-child : {n m : Node} → Children (n ∷ []) ≡ Children (m ∷ []) → n ≡ m
-child h = cc
+abbrev verdict_at : Applied → Step → List Step → (Node → Verdict) → Verdict
+verdict_at (Refused c) s ss rest = RefusedAt s.number (rule_of s.node) c
+verdict_at (Children []) s ss rest = behind s ss
+verdict_at (Children (m ∷ ms)) s ss rest = rest m
 
-good_fails : {post : Assertion} {n : Node} {ss : List Step} (last k r c : ℕ) → IsGood post n ss → Fails post last n ss k r c → ⊥
-good_fails last k r c (ends a) (refused b x y) = cc
-good_fails last k r c (ends a) (later b f) = cc
-good_fails last k r c (goes a g) (refused b x y) = cc
-good_fails last k r c (goes a g) (extra b x) = cc
-good_fails {post} last k r c (goes {ss = ss} a g) (later {s = s} b f) = good_fails s.number k r c g (subst (λ n. Fails post s.number n ss k r c) (child (sym b ∙ a)) f)
+abbrev verdict_of : Assertion → ℕ → Node → List Step → Verdict
+verdict_of post last n [] = RefusedAt (shown (last + 1)) 0 10
+verdict_of post last n (s ∷ ss) = verdict_at (apply post n s.node) s ss (λ m. verdict_of post s.number m ss)
 
-one_failure : {post : Assertion} {n : Node} {ss : List Step} {last k r c k' r' c' : ℕ} → Fails post last n ss k r c → Fails post last n ss k' r' c' → Same k k' r r' c c'
-one_failure (lacks a) (lacks b) = record { number = a ∙ sym b; rule = refl; condition = refl }
-one_failure (refused a x y) (refused b x' y') = record { number = x ∙ sym x'; rule = y ∙ sym y'; condition = cc }
-one_failure (refused a x y) (extra b x') = cc
-one_failure (refused a x y) (later b f) = cc
-one_failure (extra a x) (refused b x' y') = cc
-one_failure (extra a x) (extra b x') = record { number = x ∙ sym x'; rule = refl; condition = refl }
-one_failure (extra a x) (later b f) = cc
-one_failure (later a f) (refused b x y) = cc
-one_failure (later a f) (extra b x) = cc
-one_failure {post} (later {k = k} {r = r} {c = c} {s = s} {ss = ss} a f) (later {k = k'} {r = r'} {c = c'} b g) =
-    one_failure f (subst (λ n. Fails post s.number n ss k' r' c') (child (sym b ∙ a)) g)
+good_is : (post : Assertion) (last : ℕ) (n : Node) (steps : List Step) → IsGood post n steps → Accepted ≡ verdict_of post last n steps
+good_is post last n steps (ends {s} e) = sym (ap (λ a. verdict_at a s [] (λ m. verdict_of post s.number m [])) e)
+good_is post last n steps (goes {m} {s} {ss} e h) = good_is post s.number m ss h ∙ sym (ap (λ a. verdict_at a s ss (λ m. verdict_of post s.number m ss)) e)
 
-pub one_verdict : (post : Assertion) (f : TypedFn) (steps : List Step) (v w : Verdict) → HasVerdict post f steps v → HasVerdict post f steps w → v ≡ w
-one_verdict post f steps Accepted Accepted a b = refl
-one_verdict post f steps Accepted (RefusedAt k r c) a b = absurd (good_fails 0 k r c a b)
-one_verdict post f steps (RefusedAt k r c) Accepted a b = absurd (good_fails 0 k r c b a)
-one_verdict post f steps (RefusedAt k r c) (RefusedAt k' r' c') a b = let s = one_failure a b in cc (s.number, s.rule, s.condition)
+fails_is : (post : Assertion) (last : ℕ) (n : Node) (steps : List Step) (k r c : ℕ) → Fails post last n steps k r c → RefusedAt k r c ≡ verdict_of post last n steps
+fails_is post last n steps k r c (lacks e) = ap (λ j. RefusedAt j 0 10) e
+fails_is post last n steps k r c (refused {s} {ss} e at by) = ap (λ j. RefusedAt j r c) at ∙ (ap (λ j. RefusedAt s.number j c) by ∙ sym (ap (λ a. verdict_at a s ss (λ m. verdict_of post s.number m ss)) e))
+fails_is post last n steps k r c (extra {s} {t} {ss} e at) = ap (λ j. RefusedAt j 0 11) at ∙ sym (ap (λ a. verdict_at a s (t ∷ ss) (λ m. verdict_of post s.number m (t ∷ ss))) e)
+fails_is post last n steps k r c (later {m} {s} {ss} e h) = fails_is post s.number m ss k r c h ∙ sym (ap (λ a. verdict_at a s ss (λ m. verdict_of post s.number m ss)) e)
+
+verdict_is : (post : Assertion) (last : ℕ) (n : Node) (steps : List Step) (v : Verdict) → HasVerdictFrom post last n steps v → v ≡ verdict_of post last n steps
+verdict_is post last n steps Accepted h = good_is post last n steps h
+verdict_is post last n steps (RefusedAt k r c) h = fails_is post last n steps k r c h
+
+pub one_verdict : OneVerdict
+one_verdict post f steps v other h g = verdict_is post 0 (entry f) steps v h ∙ sym (verdict_is post 0 (entry f) steps other g)

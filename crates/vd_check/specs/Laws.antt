@@ -1,11 +1,18 @@
--- Laws of the definitions.
+-- What follows of verdicts and outcomes from their definitions.
 use Rattle.std.specs.Prelude.{◌≡◌, ℕ, List}
 use Rattle.vd_clight.specs.declared.typed.TypedFn.{TypedFn}
 use Rattle.vd_logic.specs.declared.assertion.Assertion.{Assertion}
 use Rattle.vd_logic.specs.declared.step.Step.{Step}
+use Rattle.vd_check.specs.declared.form.Pair.{Pair}
+use Rattle.vd_check.specs.declared.store.Outcome.{Outcome}
 use Rattle.vd_check.specs.declared.store.Verdict.{Verdict}
 use Rattle.vd_check.specs.Script.{HasVerdict}
+use Rattle.vd_check.specs.Scratch.{Gives}
 
--- a body has one verdict by its script
-abbrev pub VerdictsAreOne : Type 0
-VerdictsAreOne = (post : Assertion) (f : TypedFn) (steps : List Step) (v w : Verdict) → HasVerdict post f steps v → HasVerdict post f steps w → v ≡ w
+-- a script gives a body one verdict at most
+abbrev pub OneVerdict : Type 0
+OneVerdict = (post : Assertion) (f : TypedFn) (steps : List Step) (v other : Verdict) → HasVerdict post f steps v → HasVerdict post f steps other → v ≡ other
+
+-- a unit and a link give one outcome at most
+abbrev pub OneOutcome : Type 0
+OneOutcome = (asked : List ℕ) (p : Pair) (o other : Outcome) → Gives asked p o → Gives asked p other → o ≡ other

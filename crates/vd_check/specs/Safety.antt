@@ -1,22 +1,45 @@
--- The program of an accepted unit is safe.
-use Rattle.std.specs.Prelude.{◌≡◌, ℕ, List, [], ◌∷◌}
+-- What an accepted check promises: the program of the texts is whole, and safe under every schedule.
+use Rattle.std.specs.Prelude.{◌≡◌, ℕ, true, List, [], ◌∷◌, Some}
 use Rattle.vd_clight.specs.declared.program.Program.{Program}
+use Rattle.vd_clight.specs.declared.syntax.FnText.{FnText}
 use Rattle.vd_clight.specs.declared.typed.TypedFn.{TypedFn}
+use Rattle.vd_clight.specs.Whole.{is_whole}
 use Rattle.vd_logic.specs.declared.assertion.Assertion.{Assertion}
 use Rattle.vd_logic.specs.declared.step.Step.{Step}
 use Rattle.vd_machine.specs.Safe.{IsSafe}
+use Rattle.vd_check.specs.declared.form.Pair.{Pair}
+use Rattle.vd_check.specs.declared.form.UnitParts.{UnitParts}
+use Rattle.vd_check.specs.declared.store.Outcome.{Outcome}
+use Rattle.vd_check.specs.declared.store.Outcome.TheVariants as outcome
 use Rattle.vd_check.specs.declared.store.Verdict.TheVariants.{Accepted}
-use Rattle.vd_check.specs.Script.{HasVerdict}
+use Rattle.vd_check.specs.Form.{Entry, AreTexts}
 use Rattle.vd_check.specs.Meaning.{Satisfies}
+use Rattle.vd_check.specs.Script.{HasVerdict}
+use Rattle.vd_check.specs.Typing.{typed_function}
 
 -- the program of one function, its main
 abbrev pub program_of : TypedFn → Program
 program_of f = record { fns = f ∷ []; globals = []; main = 0 }
 
--- under every schedule main is never stuck, never races, and what it returns satisfies its postcondition
+-- under every schedule main is never stuck and never races, and what it returns satisfies the postcondition
 abbrev pub IsSafeFor : Assertion → TypedFn → Type 0
 IsSafeFor post f = IsSafe (Satisfies post) (program_of f)
 
 -- an accepted body is safe
 abbrev pub AcceptedAreSafe : Type 0
 AcceptedAreSafe = (post : Assertion) (f : TypedFn) (steps : List Step) → HasVerdict post f steps Accepted → IsSafeFor post f
+
+-- a typed function makes a whole program
+abbrev pub TypedAreWhole : Type 0
+TypedAreWhole = (text : FnText) (f : TypedFn) → typed_function text ≡ Some f → is_whole (program_of f) ≡ true
+
+-- the program of a unit of the form is whole, and safe for main's postcondition
+pub record HasSafeProgram (u : UnitParts) : Type 0 where
+  pub whole : is_whole (program_of u.typed) ≡ true
+  pub safe : IsSafeFor u.spec.post u.typed
+
+-- what an outcome promises of the program that the texts define
+abbrev pub Promises : List Entry → Outcome → Type 0
+Promises texts (outcome.Accepted set report) = (p : Pair) × AreTexts texts p × HasSafeProgram p.unit
+Promises texts (outcome.Rejected report) = Unit {0}
+Promises texts outcome.NoLink = Unit {0}

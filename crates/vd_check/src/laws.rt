@@ -1,16 +1,18 @@
-//! Laws of the definitions.
+//! What follows from the definitions alone.
 
-ghost use Rattle.vd_check.specs.Laws.{VerdictsAreOne};
-ghost use Rattle.vd_check.specs.Safety.{AcceptedAreSafe};
+ghost use Rattle.vd_check.specs.Laws.{OneVerdict, OneOutcome};
+ghost use Rattle.vd_check.specs.Safety.{AcceptedAreSafe, TypedAreWhole};
 
-/// A body has one verdict.
-pub fn verdicts_are_one()
-    ensures { VerdictsAreOne }
+/// Laws for callers that reason about verdicts and outcomes: the call does nothing.
+pub fn check_laws()
+    ensures verdict { OneVerdict }
+    ensures outcome { OneOutcome }
 {
 }
 
-/// An accepted body is safe under every schedule.
-pub fn accepted_are_safe()
-    ensures { AcceptedAreSafe }
+/// What an accepted body promises: its program is whole, and safe under every schedule. The call does nothing.
+pub fn safety_laws()
+    ensures safe { AcceptedAreSafe }
+    ensures whole { TypedAreWhole }
 {
 }

@@ -12,7 +12,10 @@ mod value;
 mod whole;
 
 pub use form::{LinkParts, Pair, UnitParts};
-pub use laws::{accepted_are_safe, verdicts_are_one};
+pub use laws::{check_laws, safety_laws};
 pub use report::{Failure, Finding};
 pub use store::{Linkset, Outcome, Report, Snapshot, Verdict, WorkKind, WorkName};
 pub use whole::{scratch, try_scratch};
+
+#[cfg(test)]
+mod tests;

@@ -3,6 +3,7 @@
 ghost use Rattle.std.specs.Prelude.{◌≡◌, codes, IfOk, MatchOption};
 ghost use Rattle.vd_form.specs.Sections.{Finds};
 ghost use Rattle.vd_check.specs.Form.{HasForm, AreTexts};
+ghost use Rattle.vd_check.specs.Safety.{Promises};
 ghost use Rattle.vd_check.specs.Scratch.{Scratches, Gives, findings_of, failure_of, linkset_of};
 
 use crate::form::{Pair, read_pair};
@@ -115,7 +116,7 @@ pub fn try_scratch(
     texts: &Snapshot,
     link: &Name,
 ) -> Result<Option<Outcome>, AllocError>
-    ensures { IfOk result (λ found. MatchOption found (HasForm texts.now.texts → ⊥) (λ o. HasForm texts.now.texts × Scratches texts.now.texts link.now o)) }
+    ensures { IfOk result (λ found. MatchOption found (HasForm texts.now.texts → ⊥) (λ o. HasForm texts.now.texts × Scratches texts.now.texts link.now o × Promises texts.now.texts o)) }
 {
     match pair_of(alloc, texts)? {
         Some(pair) => {
@@ -129,7 +130,7 @@ pub fn try_scratch(
 /// Checks the link over all texts at once.
 pub fn scratch(alloc: Global, texts: &Snapshot, link: &Name) -> Result<Outcome, AllocError>
     requires { HasForm texts.now.texts }
-    ensures { IfOk result (λ o. Scratches texts.now.texts link.now o) }
+    ensures { IfOk result (λ o. Scratches texts.now.texts link.now o × Promises texts.now.texts o) }
 {
     match try_scratch(alloc, texts, link)? {
         Some(outcome) => Ok(outcome),

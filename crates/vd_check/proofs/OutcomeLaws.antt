@@ -1,0 +1,37 @@
+-- A unit and a link give one outcome.
+use Rattle.std.proofs.Common.{◌≡◌, ℕ, true, false, List, refl, ap, sym, ◌∙◌}
+use Rattle.vd_check.specs.declared.form.Pair.{Pair}
+use Rattle.vd_check.specs.declared.form.UnitParts.{UnitParts}
+use Rattle.vd_check.specs.declared.report.Finding.{Finding}
+use Rattle.vd_check.specs.declared.store.Linkset.{Linkset}
+use Rattle.vd_check.specs.declared.store.Outcome.{Outcome}
+use Rattle.vd_check.specs.declared.store.Outcome.TheVariants as outcome
+use Rattle.vd_check.specs.declared.store.Report.{Report}
+use Rattle.vd_check.specs.Laws.{OneOutcome}
+use Rattle.vd_check.specs.Report.{are_accepted, report_lines}
+use Rattle.vd_check.specs.Scratch.{AreFindings, Reports, Gives, findings_of, failure_of, linkset_of}
+use Rattle.vd_check.proofs.VerdictLaws.{one_verdict}
+
+same_findings : (u : UnitParts) (fs gs : List Finding) → AreFindings u fs → AreFindings u gs → fs ≡ gs
+same_findings u fs gs h g = h.all ∙ (ap (findings_of u.name) (one_verdict u.spec.post u.typed u.steps h.body g.body h.judged g.judged) ∙ sym g.all)
+
+same_report : (p : Pair) (fs gs : List Finding) (r s : Report) → Reports p fs r → Reports p gs s → r ≡ s
+same_report p fs gs r s h g = λ i. record { lines = lines i } where
+  lines : r.lines ≡ s.lines
+  lines = h.lines ∙ (ap (λ (xs : List Finding). report_lines xs p.link (failure_of xs)) (same_findings p.unit fs gs h.found g.found) ∙ sym g.lines)
+
+same_linkset : (p : Pair) (set other : Linkset) → set.parts ≡ linkset_of p → other.parts ≡ linkset_of p → set ≡ other
+same_linkset p set other h g = λ i. record { parts = parts i } where
+  parts : set.parts ≡ other.parts
+  parts = h ∙ sym g
+
+pub one_outcome : OneOutcome
+one_outcome asked p (outcome.Accepted set r) (outcome.Accepted other s) h g = λ i. outcome.Accepted (same_linkset p set other h.4 g.4 i) (same_report p h.0 g.0 r s h.2 g.2 i)
+one_outcome asked p (outcome.Accepted set r) (outcome.Rejected s) h g = let same = same_findings p.unit h.0 g.0 h.2.found g.2.found in cc
+one_outcome asked p (outcome.Accepted set r) outcome.NoLink h g = absurd (g h.1)
+one_outcome asked p (outcome.Rejected r) (outcome.Accepted other s) h g = let same = same_findings p.unit h.0 g.0 h.2.found g.2.found in cc
+one_outcome asked p (outcome.Rejected r) (outcome.Rejected s) h g = ap outcome.Rejected (same_report p h.0 g.0 r s h.2 g.2)
+one_outcome asked p (outcome.Rejected r) outcome.NoLink h g = absurd (g h.1)
+one_outcome asked p outcome.NoLink (outcome.Accepted other s) h g = absurd (h g.1)
+one_outcome asked p outcome.NoLink (outcome.Rejected s) h g = absurd (h g.1)
+one_outcome asked p outcome.NoLink outcome.NoLink h g = refl
