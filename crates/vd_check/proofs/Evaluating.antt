@@ -14,7 +14,7 @@ use Rattle.vd_clight.specs.declared.typed.Lval.{Lval}
 use Rattle.vd_clight.specs.declared.typed.TExpr.{TExpr, TExpr-F, ind-TExpr, map-TExpr, roll-TExpr, fold-roll-TExpr}
 use Rattle.vd_mem.specs.declared.value.Value.{Value as Word}
 use Rattle.vd_mem.specs.declared.value.Value.TheVariants.{Undef, Int, Ptr}
-use Rattle.vd_mem.specs.Word.{signed, is_signed as is_signed_word, wrapped as wrapped_word}
+use Rattle.vd_mem.specs.Word.{signed}
 use Rattle.vd_machine.specs.declared.answer.Cause.{Cause}
 use Rattle.vd_machine.specs.Arithmetic.{Evaluated, arithmetic, binary}
 use Rattle.vd_machine.specs.Evaluation.{Temps, temp, eval, address, on_ok, on_int, part_layer, expression_layer, place_layer}
@@ -81,16 +81,8 @@ signed_below n h = grind (arith, nat_tests)
 signed_pos : (n : ℕ) → is_signed (pos n) ≡ true → signed n ≡ pos n
 signed_pos n h = rw (signed_below n h) refl
 
-signed_word : (z : ℤ) → is_signed z ≡ true → is_signed_word z ≡ true
-signed_word (pos n) h = signed_below n h
-signed_word (negsuc n) h = grind (arith, nat_tests)
-
-same_wrapped : (z : ℤ) → wrapped_word z ≡ wrapped z
-same_wrapped (pos n) = refl
-same_wrapped (negsuc n) = refl
-
 arithmetic_is : (z : ℤ) → is_signed z ≡ true → arithmetic Signed z ≡ Ok (Int (wrapped z))
-arithmetic_is z h = rw (signed_word z h, same_wrapped z) refl
+arithmetic_is z h = rw h refl
 
 -- ---- parts of a proved expression
 

@@ -8,15 +8,8 @@ use Rattle.vd_clight.specs.declared.typed.Kind.{Kind}
 use Rattle.vd_clight.specs.declared.typed.Kind.TheVariants.{Signed}
 use Rattle.vd_clight.specs.declared.typed.TExpr.{TExpr, TExpr-F, fold-TExpr}
 use Rattle.vd_clight.specs.declared.typed.Part.TheOpen as expression
-
--- the normal form of vi(z): z modulo 2^32
-abbrev pub wrapped : ℤ → ℕ
-wrapped (pos n) = n % 2 ^ 32
-wrapped (negsuc n) = 2 ^ 32 - 1 - n % 2 ^ 32
-
--- a signed 32-bit integer, which makes the obligations -2147483648 <= z and z <= 2147483647 evident
-abbrev pub is_signed : ℤ → Bool
-is_signed z = int_le (negsuc 2147483647) z && int_le z (pos 2147483647)
+-- The normal form of vi(z) is `wrapped z`. Where `is_signed z` holds, the obligations -2147483648 <= z and z <= 2147483647 are evident.
+pub use Rattle.vd_mem.specs.Word.{wrapped, is_signed}
 
 -- the n of a value vi(n), and the integers that have to be signed 32-bit integers, in the order in which they are owed
 pub record Value : Type 0 where

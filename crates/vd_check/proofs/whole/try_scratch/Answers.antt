@@ -7,5 +7,5 @@ returns-in_ok-outcome-in-Some c =
     (
       (c.in-Some.pair, form),
       (c.in-Some.pair, form, c.in_ok-outcome-in-Some.ensures),
-      promises c.args.texts.now.texts c.args.link.now c.in-Some.pair c.in_ok-outcome-in-Some.field-0 form c.in_ok-outcome-in-Some.ensures,
+      promises c.args.texts.now.texts c.args.link.now c.in-Some.pair c.in_ok-outcome-in-Some.outcome form c.in_ok-outcome-in-Some.ensures,
     )
