@@ -1,5 +1,5 @@
 -- From what is read of a section's tokens to what the section is.
-use Rattle.std.proofs.Common.{ℕ, ◌≡◌, Bool, true, false, List, [], ◌∷◌, Option, Some, None, Result, Ok, Err, if◌then◌else◌, refl, sym, ◌∙◌, ap, subst}
+use Rattle.std.proofs.Common.{ℕ, ◌≡◌, Bool, true, false, List, [], Option, Some, None, Result, Ok, Err, if◌then◌else◌, refl, sym, ◌∙◌, ap, subst}
 use Rattle.vd_logic.specs.declared.step.Step.{Step}
 use Rattle.vd_logic.specs.declared.step.StepNode.{StepNode}
 use Rattle.std.specs.Prelude.{MatchOption}

@@ -1,6 +1,6 @@
 -- A token of a section is what its kind says.
-use Rattle.std.proofs.Common.{ℕ, ◌^◌, ◌-◌, ◌≤◌, ◌<◌, ◌≡◌, Bool, true, false, ◌||◌, ◌&&◌, List, [], ◌∷◌, map, codes, Option, Some, None, refl, sym, ◌∙◌, ap, arith}
-use Rattle.std.specs.Prelude.{if◌then◌else◌, nat_le, nat_lt}
+use Rattle.std.proofs.Common.{ℕ, ◌^◌, ◌-◌, ◌≡◌, Bool, true, false, ◌||◌, ◌&&◌, List, [], ◌∷◌, map, Some, None, refl, sym, ◌∙◌, ap}
+use Rattle.std.specs.Prelude.{if◌then◌else◌, nat_le}
 use Rattle.std.specs.Str.{bytes_eq}
 use Rattle.std.specs.Cmp.Lexicographic.{same_text}
 use Rattle.vd_base.specs.Name.{is_name}
@@ -12,9 +12,8 @@ use Rattle.vd_form.specs.declared.kind.Kind.{Kind}
 use Rattle.vd_form.specs.declared.kind.Kind.TheVariants as k
 use Rattle.vd_form.specs.declared.section.Section.{Section}
 use Rattle.vd_form.specs.declared.section.Section.TheVariants.{Function, Specification, Script, Names}
-use Rattle.vd_form.specs.Lexeme.{Lexeme}
 use Rattle.vd_form.specs.Cursor.{may_be, fits, all_fit}
-use Rattle.vd_form.specs.Words.{kind_in, name_kind, is_other_word, is_known_function, function_words, specification_words, script_words, word_kind, signs, sign_kind, is_operator, alphabet, number_in, number_kind, worded, numbered, seen_as, seen_in}
+use Rattle.vd_form.specs.Words.{kind_in, name_kind, is_other_word, is_known_function, function_words, specification_words, script_words, word_kind, signs, sign_kind, is_operator, alphabet, number_in, number_kind, number_lexeme, lexeme_as, lexeme_in}
 
 both_true : (a b : Bool) → a ≡ true → b ≡ true → (a && b) ≡ true
 both_true true b h g = g
@@ -79,28 +78,28 @@ operator_fits false sign = refl
 sign_fits : (section : Section) (sign : List ℕ) → may_be (sign_kind section sign) sign 0 ≡ true
 sign_fits section sign = kind_fits signs (if is_operator (alphabet section) sign then k.Operator else k.Other) sign refl (operator_fits (is_operator (alphabet section) sign) sign)
 
-at_most_fits : (kind : Kind) (t : Token) (n most : ℕ) → ((nat_le n most ≡ true) → may_be kind t.spelling n ≡ true) → fits (numbered kind t (at_most most n)) ≡ true
+at_most_fits : (kind : Kind) (t : Token) (n most : ℕ) → ((nat_le n most ≡ true) → may_be kind t.spelling n ≡ true) → fits (number_lexeme kind t (at_most most n)) ≡ true
 at_most_fits kind t n most h = by_test (nat_le n most) refl
   where
-    by_test : (b : Bool) → nat_le n most ≡ b → fits (numbered kind t (if b then Some n else None)) ≡ true
+    by_test : (b : Bool) → nat_le n most ≡ b → fits (number_lexeme kind t (if b then Some n else None)) ≡ true
     by_test true e = h e
     by_test false e = refl
 
-number_fits : (section : Section) (t : Token) → fits (numbered (number_kind section) t (number_in section t.spelling)) ≡ true
+number_fits : (section : Section) (t : Token) → fits (number_lexeme (number_kind section) t (number_in section t.spelling)) ≡ true
 number_fits Function t = by_test (has_suffix t.spelling)
   where
-    by_test : (b : Bool) → fits (numbered k.Number t (if b then None else at_most 2147483647 (number_of t.spelling))) ≡ true
+    by_test : (b : Bool) → fits (number_lexeme k.Number t (if b then None else at_most 2147483647 (number_of t.spelling))) ≡ true
     by_test true = refl
     by_test false = at_most_fits k.Number t (number_of t.spelling) 2147483647 (λ h. h)
 number_fits Specification t = at_most_fits k.Integer t (number_of t.spelling) (2 ^ 127 - 1) (λ h. h)
 number_fits Script t = at_most_fits k.Integer t (number_of t.spelling) (2 ^ 127 - 1) (λ h. h)
 number_fits Names t = at_most_fits k.Integer t (number_of t.spelling) (2 ^ 127 - 1) (λ h. h)
 
-seen_fits : (section : Section) (shape : TokenKind) (t : Token) → fits (seen_as section shape t) ≡ true
-seen_fits section shape.Word t = word_fits section t.spelling
-seen_fits section shape.Number t = number_fits section t
-seen_fits section shape.Sign t = sign_fits section t.spelling
+lexeme_fits : (section : Section) (shape : TokenKind) (t : Token) → fits (lexeme_as section shape t) ≡ true
+lexeme_fits section shape.Word t = word_fits section t.spelling
+lexeme_fits section shape.Number t = number_fits section t
+lexeme_fits section shape.Sign t = sign_fits section t.spelling
 
-pub all_seen_fit : (section : Section) (ts : List Token) → all_fit (map (seen_in section) ts) ≡ true
-all_seen_fit section [] = refl
-all_seen_fit section (t ∷ ts) = both_true (fits (seen_in section t)) (all_fit (map (seen_in section) ts)) (seen_fits section t.kind t) (all_seen_fit section ts)
+pub all_lexemes_fit : (section : Section) (ts : List Token) → all_fit (map (lexeme_in section) ts) ≡ true
+all_lexemes_fit section [] = refl
+all_lexemes_fit section (t ∷ ts) = both_true (fits (lexeme_in section t)) (all_fit (map (lexeme_in section) ts)) (lexeme_fits section t.kind t) (all_lexemes_fit section ts)

@@ -7,7 +7,7 @@ use Rattle.vd_form.specs.declared.kind.Class.{Class}
 use Rattle.vd_form.specs.declared.kind.Class.TheVariants.{One, AnyName, Sum}
 use Rattle.vd_form.specs.Lexeme.{Lexeme, kind_of}
 use Rattle.vd_form.specs.Kinds.{same, has}
-use Rattle.vd_form.specs.Grammar.{Phrase, Signature, Function, Declarations, Statements, Statement, Expression, Operations, Operand, Specification, Nothing, Facts, Props, MoreProps, Prop_, Term_, Steps, Names, MoreNames, Rule, symbols}
+use Rattle.vd_form.specs.Grammar.{Phrase, Signature, Function, Declarations, Statements, Statement, Expression, Operations, Operand, Specification, Precondition, Postcondition, Props, MoreProps, Prop, Term, Steps, Names, MoreNames, Rule, symbols}
 use Rattle.vd_form.specs.Reading.{choose, grammar, read}
 use Rattle.vd_grammar.specs.Reading.{by_choice}
 use Rattle.vd_grammar.specs.Tables.{nth, Tables, is_sound, lower, Laws}
@@ -60,12 +60,12 @@ rules Expression = Rule.expression ∷ []
 rules Operations = Rule.no_operation ∷ Rule.operation ∷ []
 rules Operand = Rule.name ∷ Rule.number ∷ Rule.brackets ∷ []
 rules Specification = Rule.specification ∷ []
-rules Nothing = Rule.nothing_said ∷ []
-rules Facts = Rule.facts ∷ []
+rules Precondition = Rule.precondition ∷ []
+rules Postcondition = Rule.postcondition ∷ []
 rules Props = Rule.props ∷ []
 rules MoreProps = Rule.last_prop ∷ Rule.next_prop ∷ []
-rules Prop_ = Rule.equation ∷ []
-rules Term_ = Rule.result ∷ Rule.integer ∷ []
+rules Prop = Rule.equation ∷ []
+rules Term = Rule.result ∷ Rule.integer ∷ []
 rules Steps = Rule.no_step ∷ Rule.set_step ∷ Rule.return_step ∷ []
 rules Names = Rule.names ∷ []
 rules MoreNames = Rule.last_name ∷ Rule.next_name ∷ []
@@ -113,12 +113,12 @@ begins Expression kind = begins_operand kind
 begins Operations kind = has Sum kind
 begins Operand kind = begins_operand kind
 begins Specification kind = same k.Int kind
-begins Nothing kind = same k.Prop kind
-begins Facts kind = same k.Prop kind
+begins Precondition kind = same k.Prop kind
+begins Postcondition kind = same k.Prop kind
 begins Props kind = begins_term kind
 begins MoreProps kind = same k.Comma kind
-begins Prop_ kind = begins_term kind
-begins Term_ kind = begins_term kind
+begins Prop kind = begins_term kind
+begins Term kind = begins_term kind
 begins Steps kind = same k.Set kind || same k.Return kind
 begins Names kind = has AnyName kind
 begins MoreNames kind = same k.Comma kind
@@ -133,12 +133,12 @@ follows Expression kind = same k.Semicolon kind || same k.RightParen kind
 follows Operations kind = same k.Semicolon kind || same k.RightParen kind
 follows Operand kind = has Sum kind || (same k.Semicolon kind || same k.RightParen kind)
 follows Specification kind = same k.End kind
-follows Nothing kind = same k.Post kind
-follows Facts kind = same k.End kind
+follows Precondition kind = same k.Post kind
+follows Postcondition kind = same k.End kind
 follows Props kind = same k.RightParen kind
 follows MoreProps kind = same k.RightParen kind
-follows Prop_ kind = same k.Comma kind || same k.RightParen kind
-follows Term_ kind = same k.Equals kind || (same k.Comma kind || same k.RightParen kind)
+follows Prop kind = same k.Comma kind || same k.RightParen kind
+follows Term kind = same k.Equals kind || (same k.Comma kind || same k.RightParen kind)
 follows Steps kind = same k.End kind
 follows Names kind = same k.End kind
 follows MoreNames kind = same k.End kind
@@ -149,7 +149,7 @@ rank Statements = 1
 rank Expression = 1
 rank Specification = 1
 rank Props = 2
-rank Prop_ = 1
+rank Prop = 1
 rank _ = 0
 
 abbrev pub least : (S : Phrase) → Rule S
@@ -162,12 +162,12 @@ least Expression = Rule.expression
 least Operations = Rule.no_operation
 least Operand = Rule.name
 least Specification = Rule.specification
-least Nothing = Rule.nothing_said
-least Facts = Rule.facts
+least Precondition = Rule.precondition
+least Postcondition = Rule.postcondition
 least Props = Rule.props
 least MoreProps = Rule.last_prop
-least Prop_ = Rule.equation
-least Term_ = Rule.result
+least Prop = Rule.equation
+least Term = Rule.result
 least Steps = Rule.no_step
 least Names = Rule.names
 least MoreNames = Rule.last_name
@@ -177,9 +177,9 @@ height Function = 1
 height Statement = 2
 height Expression = 1
 height Specification = 4
-height Facts = 3
+height Postcondition = 3
 height Props = 2
-height Prop_ = 1
+height Prop = 1
 height Names = 1
 height _ = 0
 

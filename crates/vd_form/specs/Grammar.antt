@@ -1,5 +1,5 @@
 -- The grammar of the form's sections. `symbols` is the right side of each rule, and `make` is the syntax that it has.
-use Rattle.std.specs.Prelude.{ℕ, false, List, [], ◌∷◌, Some, pos, codes}
+use Rattle.std.specs.Prelude.{ℕ, false, List, [], ◌∷◌, Some, pos}
 use Rattle.vd_base.specs.declared.ctype.CType.TheVariants as typ
 use Rattle.vd_base.specs.declared.ctype.Field.{Field}
 use Rattle.vd_clight.specs.declared.syntax.BinOp.{BinOp}
@@ -12,7 +12,7 @@ use Rattle.vd_clight.specs.declared.syntax.StmtNode.{StmtNode}
 use Rattle.vd_clight.specs.declared.syntax.StmtNode.TheVariants as s
 use Rattle.vd_clight.specs.declared.syntax.FnText.{FnText}
 use Rattle.vd_logic.specs.declared.assertion.Assertion.{Assertion}
-use Rattle.vd_logic.specs.declared.assertion.Prop.{Prop}
+use Rattle.vd_logic.specs.declared.assertion.Prop.{Prop as PropSyntax}
 use Rattle.vd_logic.specs.declared.assertion.Prop.TheVariants as prop
 use Rattle.vd_logic.specs.declared.assertion.Rel.TheVariants as rel
 use Rattle.vd_logic.specs.declared.assertion.Spec.{Spec}
@@ -20,7 +20,7 @@ use Rattle.vd_logic.specs.declared.step.StepNode.{StepNode}
 use Rattle.vd_logic.specs.declared.step.StepNode.TheVariants as step
 use Rattle.vd_logic.specs.declared.term.Op.TheVariants as op
 use Rattle.vd_logic.specs.declared.term.Sort.TheVariants as sort
-use Rattle.vd_logic.specs.declared.term.Term.{Term}
+use Rattle.vd_logic.specs.declared.term.Term.{Term as TermSyntax}
 use Rattle.vd_logic.specs.declared.term.Term.TheVariants as term
 use Rattle.vd_grammar.specs.Grammar.{Symbol, word, part, Row}
 use Rattle.vd_form.specs.declared.kind.Kind.{Kind}
@@ -28,13 +28,13 @@ use Rattle.vd_form.specs.declared.kind.Kind.TheVariants as k
 use Rattle.vd_form.specs.declared.kind.Class.{Class}
 use Rattle.vd_form.specs.declared.kind.Class.TheVariants.{One, AnyName, Sum}
 use Rattle.vd_form.specs.Lexeme.{Lexeme}
-use Rattle.vd_form.specs.Kinds.{same}
+use Rattle.vd_form.specs.Words.{main}
 
--- What is read.
+-- what is read
 pub data Phrase : Type 0 where
   Signature : Phrase
   Function Declarations Statements Statement Expression Operations Operand : Phrase
-  Specification Nothing Facts Props MoreProps Prop_ Term_ : Phrase
+  Specification Precondition Postcondition Props MoreProps Prop Term : Phrase
   Steps : Phrase
   Names MoreNames : Phrase
 
@@ -49,18 +49,19 @@ Value Expression = Expr
 Value Operations = List (BinOp × Expr)
 Value Operand = Expr
 Value Specification = Spec
-Value Nothing = Assertion
-Value Facts = Assertion
-Value Props = List Prop
-Value MoreProps = List Prop
-Value Prop_ = Prop
-Value Term_ = Term
+Value Precondition = Assertion
+Value Postcondition = Assertion
+Value Props = List PropSyntax
+Value MoreProps = List PropSyntax
+Value Prop = PropSyntax
+Value Term = TermSyntax
 Value Steps = List StepNode
 Value Names = List (List ℕ)
 Value MoreNames = List (List ℕ)
 
 -- ---- the rules
 
+-- the rules by which each is written
 pub data Rule : Phrase → Type 0 where
   signature : Rule Signature
   function : Rule Function
@@ -71,19 +72,21 @@ pub data Rule : Phrase → Type 0 where
   no_operation operation : Rule Operations
   name number brackets : Rule Operand
   specification : Rule Specification
-  nothing_said : Rule Nothing
-  facts : Rule Facts
+  precondition : Rule Precondition
+  postcondition : Rule Postcondition
   props : Rule Props
   last_prop next_prop : Rule MoreProps
-  equation : Rule Prop_
-  result integer : Rule Term_
+  equation : Rule Prop
+  result integer : Rule Term
   no_step set_step return_step : Rule Steps
   names : Rule Names
   last_name next_name : Rule MoreNames
 
+-- a token of this kind
 abbrev pub token : Kind → Symbol Class Phrase
 token kind = word (One kind)
 
+-- the right side of each rule
 abbrev pub symbols : {S : Phrase} → Rule S → List (Symbol Class Phrase)
 -- signature = "int" "main" "(" "void" ")"
 symbols signature = token k.Int ∷ token k.Main ∷ token k.LeftParen ∷ token k.Void ∷ token k.RightParen ∷ []
@@ -104,17 +107,17 @@ symbols operation = word Sum ∷ part Operand ∷ part Operations ∷ []
 symbols name = word AnyName ∷ []
 symbols number = token k.Number ∷ []
 symbols brackets = token k.LeftParen ∷ part Expression ∷ token k.RightParen ∷ []
--- specification = signature "pre" nothing "post" facts
-symbols specification = part Signature ∷ token k.Pre ∷ part Nothing ∷ token k.Post ∷ part Facts ∷ []
--- nothing = "prop" "(" ")" "sep" "(" ")"
-symbols nothing_said = token k.Prop ∷ token k.LeftParen ∷ token k.RightParen ∷ token k.Sep ∷ token k.LeftParen ∷ token k.RightParen ∷ []
--- facts = "prop" "(" prop { "," prop } ")" "sep" "(" ")"
-symbols facts = token k.Prop ∷ token k.LeftParen ∷ part Props ∷ token k.RightParen ∷ token k.Sep ∷ token k.LeftParen ∷ token k.RightParen ∷ []
-symbols props = part Prop_ ∷ part MoreProps ∷ []
+-- specification = signature "pre" precondition "post" postcondition
+symbols specification = part Signature ∷ token k.Pre ∷ part Precondition ∷ token k.Post ∷ part Postcondition ∷ []
+-- precondition = "prop" "(" ")" "sep" "(" ")"
+symbols precondition = token k.Prop ∷ token k.LeftParen ∷ token k.RightParen ∷ token k.Sep ∷ token k.LeftParen ∷ token k.RightParen ∷ []
+-- postcondition = "prop" "(" prop { "," prop } ")" "sep" "(" ")"
+symbols postcondition = token k.Prop ∷ token k.LeftParen ∷ part Props ∷ token k.RightParen ∷ token k.Sep ∷ token k.LeftParen ∷ token k.RightParen ∷ []
+symbols props = part Prop ∷ part MoreProps ∷ []
 symbols last_prop = []
-symbols next_prop = token k.Comma ∷ part Prop_ ∷ part MoreProps ∷ []
+symbols next_prop = token k.Comma ∷ part Prop ∷ part MoreProps ∷ []
 -- prop = term "=" term
-symbols equation = part Term_ ∷ token k.Equals ∷ part Term_ ∷ []
+symbols equation = part Term ∷ token k.Equals ∷ part Term ∷ []
 -- term = "r" | "vi" "(" number ")"
 symbols result = token k.Result ∷ []
 symbols integer = token k.Vi ∷ token k.LeftParen ∷ token k.Integer ∷ token k.RightParen ∷ []
@@ -129,19 +132,19 @@ symbols next_name = token k.Comma ∷ word AnyName ∷ part MoreNames ∷ []
 
 -- ---- the syntax of a rule
 
--- the form's one function
-abbrev pub main : List ℕ
-main = codes "main"
-
+-- a temporary
 abbrev pub int_field : Lexeme → Field
 int_field x = record { name = x.spelling; typ = typ.Int }
 
+-- an expression at a place
 abbrev pub at : ℕ → ExprNode → Expr
 at place node = roll-Expr (record { place = place; node = node })
 
+-- a statement at a place
 abbrev pub stmt_at : ℕ → StmtNode → Stmt
 stmt_at place node = roll-Stmt (record { place = place; node = node })
 
+-- the operator of `+` or `-`
 abbrev pub operator_of : Kind → BinOp
 operator_of k.Plus = operator.Add
 operator_of _ = operator.Sub
@@ -155,11 +158,11 @@ abbrev pub grouped : Expr → List (BinOp × Expr) → Expr
 grouped x [] = x
 grouped x (o ∷ os) = grouped (binary o.0 x o.1) os
 
--- facts alone
-abbrev pub pure_assertion : List Prop → Assertion
+-- an assertion that says nothing of temporaries and of the heap
+abbrev pub pure_assertion : List PropSyntax → Assertion
 pure_assertion ps = record { opened = []; props = ps; locals = []; items = [] }
 
--- The syntax of a rule, given that of its symbols.
+-- The syntax of each rule, given that of its symbols. An expression in brackets has the place of its opening bracket.
 abbrev pub make : {S : Phrase} → (r : Rule S) → Row Class Phrase Lexeme Value (symbols r) → Value S
 make signature _ = tt
 make function (_, (_, (ts, (ss, _)))) = record { ret = typ.Int; name = main; params = []; temps = ts; body = ss }
@@ -176,8 +179,8 @@ make name (x, _) = at x.place (e.Ident x.spelling)
 make number (n, _) = at n.place (e.Num n.value false)
 make brackets (b, (x, _)) = at b.place (out-Expr x).node
 make specification (_, (_, (pre, (_, (post, _))))) = record { ret = typ.Int; name = main; params = []; with = []; pre = pre; post = post }
-make nothing_said _ = pure_assertion []
-make facts (_, (_, (ps, _))) = pure_assertion ps
+make precondition _ = pure_assertion []
+make postcondition (_, (_, (ps, _))) = pure_assertion ps
 make props (p, (ps, _)) = p ∷ ps
 make last_prop _ = []
 make next_prop (_, (p, (ps, _))) = p ∷ ps

@@ -5,6 +5,7 @@ use Rattle.vd_form.specs.declared.kind.Kind.TheVariants as k
 use Rattle.vd_form.specs.declared.kind.Class.{Class}
 use Rattle.vd_form.specs.declared.kind.Class.TheVariants.{One, AnyName, Sum}
 
+-- the kinds are one
 abbrev pub same : Kind → Kind → Bool
 same k.End k.End = true
 same k.Other k.Other = true
@@ -36,6 +37,7 @@ same k.Plus k.Plus = true
 same k.Minus k.Minus = true
 same _ _ = false
 
+-- the class has tokens of the kind
 abbrev pub has : Class → Kind → Bool
 has (One kind) t = same kind t
 has AnyName k.Name = true

@@ -3,6 +3,7 @@ use Rattle.std.specs.Prelude.{ℕ, List, [], ◌∷◌}
 use Rattle.vd_form.specs.declared.kind.Kind.{Kind}
 use Rattle.vd_form.specs.declared.kind.Kind.TheVariants.{End}
 
+-- a token with its kind
 pub record Lexeme : Type 0 where
   pub kind : Kind
   -- where it begins in the section

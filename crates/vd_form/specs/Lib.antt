@@ -1,11 +1,11 @@
 pub mod Lexeme
 pub mod Kinds
-pub mod Cursor
 pub mod Words
 pub mod Nesting
 pub mod Grammar
 pub mod Reading
-pub mod Passing
 pub mod Sections
+pub mod Cursor
+pub mod Passing
 pub mod Numbering
 pub mod Ending

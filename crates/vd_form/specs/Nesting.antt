@@ -5,7 +5,7 @@ use Rattle.vd_form.specs.declared.kind.Kind.{Kind}
 use Rattle.vd_form.specs.declared.kind.Kind.TheVariants as k
 use Rattle.vd_form.specs.Lexeme.{Lexeme}
 
--- the brackets that are open, and the operators since the last `;`, `{` or `}`, a token later
+-- The brackets that are open, and the operators since the last `;`, `{` or `}`, a token later. (`[` is an operator of C too. A list of the logic is outside the form.)
 abbrev pub after : Kind → Depth → Depth
 after k.LeftParen d = record d { brackets = suc d.brackets }
 after k.LeftBracket d = record { brackets = suc d.brackets; operators = suc d.operators }
@@ -19,6 +19,7 @@ after k.Minus d = record d { operators = suc d.operators }
 after k.Operator d = record d { operators = suc d.operators }
 after _ d = d
 
+-- the most that a token may be nested
 abbrev pub nesting_limit : ℕ
 nesting_limit = 255
 
@@ -27,8 +28,10 @@ abbrev pub is_shallow_from : Depth → List Lexeme → Bool
 is_shallow_from d [] = true
 is_shallow_from d (t ∷ ts) = nat_le ((after t.kind d).brackets + (after t.kind d).operators) nesting_limit && is_shallow_from (after t.kind d) ts
 
+-- before the first token
 abbrev pub start : Depth
 start = record { brackets = 0; operators = 0 }
 
+-- no token is nested too deeply
 abbrev pub is_shallow : List Lexeme → Bool
 is_shallow ts = is_shallow_from start ts

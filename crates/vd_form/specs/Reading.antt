@@ -1,5 +1,5 @@
 -- Reading by the kind of the next token.
-use Rattle.std.specs.Prelude.{ℕ, List, Option, Some, None, if◌then◌else◌}
+use Rattle.std.specs.Prelude.{List, Option, Some, if◌then◌else◌}
 use Rattle.vd_grammar.specs.Grammar.{Grammar}
 use Rattle.vd_grammar.specs.Outcome.{Outcome}
 use Rattle.vd_grammar.specs.Reading as G
@@ -9,7 +9,7 @@ use Rattle.vd_form.specs.declared.kind.Class.{Class}
 use Rattle.vd_form.specs.declared.kind.Class.TheVariants.{One, AnyName, Sum}
 use Rattle.vd_form.specs.Lexeme.{Lexeme}
 use Rattle.vd_form.specs.Kinds.{has}
-use Rattle.vd_form.specs.Grammar.{Phrase, Signature, Function, Declarations, Statements, Statement, Expression, Operations, Operand, Specification, Nothing, Facts, Props, MoreProps, Prop_, Term_, Steps, Names, MoreNames, Value, Rule, symbols, make}
+use Rattle.vd_form.specs.Grammar.{Phrase, Signature, Function, Declarations, Statements, Statement, Expression, Operations, Operand, Specification, Precondition, Postcondition, Props, MoreProps, Prop, Term, Steps, Names, MoreNames, Value, Rule, symbols, make}
 
 -- the rule by which a phrase is read
 abbrev pub choose : (S : Phrase) → Kind → Option (Rule S)
@@ -24,18 +24,19 @@ choose Operand kind =
     if has AnyName kind then Some Rule.name else (
     if has (One k.Number) kind then Some Rule.number else Some Rule.brackets)
 choose Specification kind = Some Rule.specification
-choose Nothing kind = Some Rule.nothing_said
-choose Facts kind = Some Rule.facts
+choose Precondition kind = Some Rule.precondition
+choose Postcondition kind = Some Rule.postcondition
 choose Props kind = Some Rule.props
 choose MoreProps kind = if has (One k.Comma) kind then Some Rule.next_prop else Some Rule.last_prop
-choose Prop_ kind = Some Rule.equation
-choose Term_ kind = if has (One k.Result) kind then Some Rule.result else Some Rule.integer
+choose Prop kind = Some Rule.equation
+choose Term kind = if has (One k.Result) kind then Some Rule.result else Some Rule.integer
 choose Steps kind =
     if has (One k.Set) kind then Some Rule.set_step else (
     if has (One k.Return) kind then Some Rule.return_step else Some Rule.no_step)
 choose Names kind = Some Rule.names
 choose MoreNames kind = if has (One k.Comma) kind then Some Rule.next_name else Some Rule.last_name
 
+-- the grammar of the form's sections, as a table
 abbrev pub grammar : Grammar
 grammar = record {
   Kind = Kind;
@@ -53,6 +54,7 @@ grammar = record {
   ranks = 4;
 }
 
+-- what is read of the tokens
 abbrev pub read : (S : Phrase) → List Lexeme → Outcome Lexeme (Value S)
 read = G.read grammar
 

@@ -11,7 +11,7 @@ use Rattle.vd_tokens.specs.Text.{Tokenizes}
 use Rattle.vd_form.specs.declared.section.Section.{Section}
 use Rattle.vd_form.specs.declared.section.Section.TheVariants as section
 use Rattle.vd_form.specs.Lexeme.{Lexeme}
-use Rattle.vd_form.specs.Words.{header, alphabet, seen_in}
+use Rattle.vd_form.specs.Words.{header, alphabet, lexeme_in}
 use Rattle.vd_form.specs.Nesting.{is_shallow}
 use Rattle.vd_form.specs.Grammar.{Phrase, Value}
 use Rattle.vd_form.specs.Grammar.{Function, Specification, Steps, Names}
@@ -39,7 +39,7 @@ pub record HasTokens (section : Section) (text : List ℕ) (ts : List Lexeme) : 
   pub cut : text ≡ line (header section) ++ (content ++ line (codes "end"))
   pub lines : AreLines content
   pub tokenized : Tokenizes (alphabet section) (length (line (header section))) content tokens (last.Text place)
-  pub seen : ts ≡ map (seen_in section) tokens
+  pub lexemes : ts ≡ map (lexeme_in section) tokens
   pub shallow : is_shallow ts ≡ true
 
 -- The section's tokens are spelled by the grammar, and this is their syntax.
@@ -56,7 +56,7 @@ IsFunction text f = Spells section.Function Function text f
 abbrev pub IsSpecification : List ℕ → Spec → Type 0
 IsSpecification text s = Spells section.Specification Specification text s
 
--- steps with their numbers
+-- steps with their numbers, of which the last one stays
 abbrev pub numbered_from : ℕ → List StepNode → List Step
 numbered_from n [] = []
 numbered_from n (node ∷ nodes) = record { number = n; node = node } ∷ numbered_from (min (n + 1) 4294967295) nodes

@@ -1,5 +1,5 @@
 //! Reads the sections of the first path's form: a function of integer sums, its specification, its script, and a list of
-//! names.
+//! names. What a section is stands in specs/Sections; the grammar is a table, and the readers descend by it.
 #![tactic(auto)]
 
 mod depth;
@@ -12,6 +12,8 @@ mod section;
 mod sections;
 mod signature;
 mod specification;
+#[cfg(test)]
+mod tests;
 mod token;
 mod words;
 

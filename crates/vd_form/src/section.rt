@@ -4,13 +4,13 @@ ghost use Rattle.std.specs.Prelude.{◌≡◌, ◌++◌, ◌≤◌, true, length
 ghost use Rattle.vd_tokens.specs.Lexeme as text;
 ghost use Rattle.vd_form.specs.Cursor.{lexemes_of, all_fit};
 ghost use Rattle.vd_form.specs.Lexeme.{Lexeme};
-ghost use Rattle.vd_form.specs.Passing.{Sees};
+ghost use Rattle.vd_form.specs.Passing.{Lexes};
 ghost use Rattle.vd_form.specs.Sections.{line, AreLines, HasTokens};
 ghost use Rattle.vd_form.specs.Words as words;
 
 use crate::depth::{Depth, after};
 use crate::token::Token;
-use crate::words::{alphabet, seen_in};
+use crate::words::{alphabet, token_in};
 use std::alloc::{AllocError, Global};
 use vd_tokens::{End, tokenize};
 
@@ -85,12 +85,12 @@ fn content_of<'a>(text: &'a [u8], header: &[u8]) -> Option<&'a [u8]>
 }
 
 /// What tokens of a text are in a section, where none is nested too deeply.
-fn seen<'a>(
+fn shallow_tokens<'a>(
     alloc: Global,
     section: Section,
     tokens: &[vd_tokens::Token<'a>],
 ) -> Result<Option<Vec<Token<'a>>>, AllocError>
-    ensures { IfOk result (λ found. Sees section (text.lexemes_of tokens.now) (option_map (λ v. lexemes_of v.items) found)) }
+    ensures { IfOk result (λ found. Lexes section (text.lexemes_of tokens.now) (option_map (λ v. lexemes_of v.items) found)) }
 {
     let mut found: Vec<Token<'a>> = Vec::new(alloc);
     let mut depth = Depth {
@@ -98,7 +98,7 @@ fn seen<'a>(
         operators: 0,
     };
     'tokens: for token in tokens {
-        let token = seen_in(section, *token);
+        let token = token_in(section, *token);
         depth = after(token.kind, depth);
         if depth.brackets + depth.operators > NESTING_LIMIT {
             return Ok(None);
@@ -126,7 +126,7 @@ pub fn tokens_of<'a>(
     };
     let tokenized = tokenize(alloc, alphabet(section), content, header.len() as u32)?;
     match tokenized.end {
-        End::Text(_) => seen(alloc, section, tokenized.tokens.as_slice()),
+        End::Text(_) => shallow_tokens(alloc, section, tokenized.tokens.as_slice()),
         End::Unknown(_) => Ok(None),
     }
 }

@@ -37,7 +37,7 @@ fn integer_term(alloc: Global, tokens: &mut Tokens<'_>) -> Result<Term, Stop>
 
 #[tactic(auto, using(crate::proofs::Laws::read_is))]
 fn term(alloc: Global, tokens: &mut Tokens<'_>) -> Result<Term, Stop>
-    ensures reads { Reads (read Phrase.Term_ tokens.old) result tokens.new }
+    ensures reads { Reads (read Phrase.Term tokens.old) result tokens.new }
     ensures no_longer { length tokens.new ≤ length tokens.old }
 {
     if tokens.sees(Class::One(Kind::Result)) {
@@ -49,7 +49,7 @@ fn term(alloc: Global, tokens: &mut Tokens<'_>) -> Result<Term, Stop>
 
 #[tactic(auto, using(crate::proofs::Laws::read_is))]
 fn prop(alloc: Global, tokens: &mut Tokens<'_>) -> Result<Prop, Stop>
-    ensures reads { Reads (read Phrase.Prop_ tokens.old) result tokens.new }
+    ensures reads { Reads (read Phrase.Prop tokens.old) result tokens.new }
     ensures no_longer { length tokens.new ≤ length tokens.old }
 {
     let left = term(alloc, tokens)?;
@@ -93,8 +93,8 @@ fn pure_assertion(alloc: Global, props: List<Prop>) -> Assertion
 }
 
 #[tactic(auto, using(crate::proofs::Laws::read_is))]
-fn nothing(alloc: Global, tokens: &mut Tokens<'_>) -> Result<Assertion, Stop>
-    ensures reads { Reads (read Phrase.Nothing tokens.old) result tokens.new }
+fn precondition(alloc: Global, tokens: &mut Tokens<'_>) -> Result<Assertion, Stop>
+    ensures reads { Reads (read Phrase.Precondition tokens.old) result tokens.new }
 {
     tokens.take(Kind::Prop)?;
     tokens.take(Kind::LeftParen)?;
@@ -106,8 +106,8 @@ fn nothing(alloc: Global, tokens: &mut Tokens<'_>) -> Result<Assertion, Stop>
 }
 
 #[tactic(auto, using(crate::proofs::Laws::read_is))]
-fn facts(alloc: Global, tokens: &mut Tokens<'_>) -> Result<Assertion, Stop>
-    ensures reads { Reads (read Phrase.Facts tokens.old) result tokens.new }
+fn postcondition(alloc: Global, tokens: &mut Tokens<'_>) -> Result<Assertion, Stop>
+    ensures reads { Reads (read Phrase.Postcondition tokens.old) result tokens.new }
 {
     tokens.take(Kind::Prop)?;
     tokens.take(Kind::LeftParen)?;
@@ -125,9 +125,9 @@ pub fn specification(alloc: Global, tokens: &mut Tokens<'_>) -> Result<Spec, Sto
 {
     signature(tokens)?;
     tokens.take(Kind::Pre)?;
-    let pre = nothing(alloc, tokens)?;
+    let pre = precondition(alloc, tokens)?;
     tokens.take(Kind::Post)?;
-    let post = facts(alloc, tokens)?;
+    let post = postcondition(alloc, tokens)?;
     Ok(Spec {
         ret: CType::Int,
         name: main_name(alloc)?,

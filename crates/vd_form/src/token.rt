@@ -7,7 +7,7 @@ ghost use Rattle.vd_grammar.specs.Reads.{ReadsBy};
 ghost use Rattle.vd_form.specs.Lexeme.{kind_of};
 ghost use Rattle.vd_form.specs.Kinds as kinds;
 ghost use Rattle.vd_form.specs.Cursor.{lexeme_of, lexemes_of, all_fit, fits};
-ghost use Rattle.vd_form.specs.Grammar.{main};
+ghost use Rattle.vd_form.specs.Words.{main};
 ghost use Rattle.vd_form.specs.Reading.{expect};
 
 use crate::kind::{Class, Kind};

@@ -224,8 +224,8 @@ fn number_kind(section: Section) -> Kind
     }
 }
 
-fn numbered<'a>(section: Section, token: vd_tokens::Token<'a>) -> Token<'a>
-    ensures { lexeme_of result ≡ words.seen_as section TokenKind.Number (text.lexeme_of token.entry) }
+fn number_token<'a>(section: Section, token: vd_tokens::Token<'a>) -> Token<'a>
+    ensures { lexeme_of result ≡ words.lexeme_as section TokenKind.Number (text.lexeme_of token.entry) }
 {
     let (kind, value) = match number_in(section, token.spelling) {
         Some(value) => (number_kind(section), value),
@@ -240,11 +240,11 @@ fn numbered<'a>(section: Section, token: vd_tokens::Token<'a>) -> Token<'a>
 }
 
 /// What a token of a text is in a section.
-pub fn seen_in<'a>(section: Section, token: vd_tokens::Token<'a>) -> Token<'a>
-    ensures { lexeme_of result ≡ words.seen_in section (text.lexeme_of token.entry) }
+pub fn token_in<'a>(section: Section, token: vd_tokens::Token<'a>) -> Token<'a>
+    ensures { lexeme_of result ≡ words.lexeme_in section (text.lexeme_of token.entry) }
 {
     let kind = match token.kind {
-        TokenKind::Number => return numbered(section, token),
+        TokenKind::Number => return number_token(section, token),
         TokenKind::Word => word_kind(section, token.spelling),
         TokenKind::Sign => sign_kind(section, token.spelling),
     };

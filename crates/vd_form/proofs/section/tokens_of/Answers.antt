@@ -1,4 +1,3 @@
-use Rattle.std.proofs.Common.{ap}
 use Rattle.std.proofs.lemmas.Result.{IfOk-weaker}
 use Rattle.vd_tokens.specs.declared.token.End.TheVariants as last
 use Rattle.vd_tokens.specs.Lexeme as text
@@ -15,11 +14,11 @@ returns-clause-tokens c =
 pub returns-in-Text-clause-tokens : goal.returns-in-Text-clause-tokens
 returns-in-Text-clause-tokens c =
     let tokens = text.lexemes_of c.as_slice.result.now in
-    IfOk-weaker c.seen.result _ _
+    IfOk-weaker c.shallow_tokens.result _ _
     (found_tokens c.args.section c.args.text.now c.in-Some.content.now tokens c.in-Text.field-0
     (content_is c.args.section c.args.text.now c.header_line-header.result.now c.in-Some.content.now tokens (last.Text c.in-Text.field-0) c.in_ok-tokenized.tokenized.end c.alphabet.result
     c.header_line-header.ensures.line c.alphabet.ensures c.in-Some.ensures.0 c.in-Some.ensures.1 (rw c.as_slice.ensures.value c.in_ok-tokenized.ensures.tokens) c.in-Text.is))
-    c.seen.ensures
+    c.shallow_tokens.ensures
 
 pub returns-in-Text-clause-fit : goal.returns-in-Text-clause-fit
-returns-in-Text-clause-fit c = IfOk-weaker c.seen.result _ _ (found_fit c.args.section (text.lexemes_of c.as_slice.result.now)) c.seen.ensures
+returns-in-Text-clause-fit c = IfOk-weaker c.shallow_tokens.result _ _ (found_fit c.args.section (text.lexemes_of c.as_slice.result.now)) c.shallow_tokens.ensures
