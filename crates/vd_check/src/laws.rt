@@ -7,12 +7,10 @@ ghost use Rattle.vd_check.specs.Safety.{AcceptedAreSafe, TypedAreWhole};
 pub fn check_laws()
     ensures verdict { OneVerdict }
     ensures outcome { OneOutcome }
-{
-}
+{}
 
 /// What an accepted body promises: its program is whole, and safe under every schedule. The call does nothing.
 pub fn safety_laws()
     ensures safe { AcceptedAreSafe }
     ensures whole { TypedAreWhole }
-{
-}
+{}
