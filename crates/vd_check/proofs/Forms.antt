@@ -88,14 +88,17 @@ module _ (o : Outline) (sections : List Section) (at : sections ≡ o.sections) 
 
   pub parts_found : (name : List ℕ) (s : Spec) (t : TypedFn) (steps : List Step) → o.kind ≡ UnitText → length o.sections ≡ 3 → name ≡ o.name
       → Finds HasSpec (Some s) → Finds HasTyped (Some t) → Finds HasScript (Some steps) → Finds (HasParts o) (Some (record { name = name; spec = s; typed = t; steps = steps }))
-  parts_found name s t steps kind three named spec typed script = (record {
-    kind = kind;
-    named = sym named;
-    three = three;
-    spec = subst (λ (ss : List Section). Under section.Spec main ss (λ text. IsSpecification text s)) at spec.0;
-    typed = subst (λ (ss : List Section). Under section.Fn main ss (λ text. IsTyped text t)) at typed.0;
-    script = subst (λ (ss : List Section). Under section.Script main ss (λ text. IsScript text steps)) at script.0;
-  }, λ u h. same_parts u name s t steps (sym h.named ∙ sym named) (spec.1 u.spec (spec_here u h)) (typed.1 u.typed (typed_here u h)) (script.1 u.steps (script_here u h)))
+  parts_found name s t steps kind three named spec typed script = (
+    record {
+      kind = kind;
+      named = sym named;
+      three = three;
+      spec = subst (λ (ss : List Section). Under section.Spec main ss (λ text. IsSpecification text s)) at spec.0;
+      typed = subst (λ (ss : List Section). Under section.Fn main ss (λ text. IsTyped text t)) at typed.0;
+      script = subst (λ (ss : List Section). Under section.Script main ss (λ text. IsScript text steps)) at script.0;
+    },
+    λ u h. same_parts u name s t steps (sym h.named ∙ sym named) (spec.1 u.spec (spec_here u h)) (typed.1 u.typed (typed_here u h)) (script.1 u.steps (script_here u h)),
+  )
 
 -- ---- links
 
@@ -113,11 +116,14 @@ module _ (o : Outline) (sections : List Section) (at : sections ≡ o.sections) 
   no_units none = λ l h. none l.units (units_here l h)
 
   pub listing_found : (name : List ℕ) (units : List (List ℕ)) → o.kind ≡ LinkText → name ≡ o.name → Finds HasUnits (Some units) → Finds (Lists o) (Some (record { name = name; units = units }))
-  listing_found name units kind named one = (record {
-    kind = kind;
-    named = sym named;
-    units = subst (λ (ss : List Section). Under section.Units None ss (λ text. IsNames text units)) at one.0;
-  }, λ l h. same_listing l name units (sym h.named ∙ sym named) (one.1 l.units (units_here l h)))
+  listing_found name units kind named one = (
+    record {
+      kind = kind;
+      named = sym named;
+      units = subst (λ (ss : List Section). Under section.Units None ss (λ text. IsNames text units)) at one.0;
+    },
+    λ l h. same_listing l name units (sym h.named ∙ sym named) (one.1 l.units (units_here l h)),
+  )
 
 -- ---- whole texts
 
@@ -143,15 +149,19 @@ module _ (e f : Entry) (u : UnitParts) (l : LinkParts) (unit : Finds (IsUnit e.2
   named_so p h = subst (λ (m : LinkParts). AreNamed e.0 f.0 u.name m) (link_same p h) (subst (λ (v : UnitParts). AreNamed e.0 f.0 v.name (listing_of p)) (unit_same p h) h.named)
 
   pub pair_found : AreNamed e.0 f.0 u.name l → Finds (ArePair e f) (Some (record { unit = u; unit_version = e.1; link = l.name; link_version = f.1 }))
-  pair_found named = (record {
-    unit = unit.0;
-    link = subst (IsLink f.2) listed link.0;
-    named = subst (λ (m : LinkParts). AreNamed e.0 f.0 u.name m) listed named;
-    unit_version = refl;
-    link_version = refl;
-  }, λ p h. same_pair p (unit_same p h) (sym h.unit_version) (ap (λ (m : LinkParts). m.name) (link_same p h)) (sym h.link_version)) where
+  pair_found named = (
+    record {
+      unit = unit.0;
+      link = subst (IsLink f.2) listed link.0;
+      named = subst (λ (m : LinkParts). AreNamed e.0 f.0 u.name m) listed named;
+      unit_version = refl;
+      link_version = refl;
+    },
+    λ p h. same_pair p (unit_same p h) (sym h.unit_version) (ap (λ (m : LinkParts). m.name) (link_same p h)) (sym h.link_version),
+  ) where
     listed : ◌≡◌ {A = LinkParts} l (record { name = l.name; units = u.name ∷ [] })
     listed = same_listing l l.name (u.name ∷ []) refl named.alone
+
     same_pair : (p : Pair) → p.unit ≡ u → p.unit_version ≡ e.1 → p.link ≡ l.name → p.link_version ≡ f.1 → ◌≡◌ {A = Pair} p (record { unit = u; unit_version = e.1; link = l.name; link_version = f.1 })
     same_pair p a b c d = λ i. record { unit = a i; unit_version = b i; link = c i; link_version = d i }
 

@@ -52,11 +52,7 @@ fn outlined(alloc: Global, text: &Text) -> Result<Option<Outline>, AllocError>
     }
 }
 
-fn text_of<'a>(
-    sections: &'a [Section],
-    kind: SectionKind,
-    name: Option<&[u8]>,
-) -> Option<&'a Text>
+fn text_of<'a>(sections: &'a [Section], kind: SectionKind, name: Option<&[u8]>) -> Option<&'a Text>
     ensures { option_copied result ≡ text_of kind (option_copied name.entry) sections.now }
 {
     match find(sections, kind, name) {

@@ -6,5 +6,4 @@ ghost use Rattle.vd_check.specs.Laws.{OneVerdict, OneOutcome};
 pub fn check_laws()
     ensures verdict { OneVerdict }
     ensures outcome { OneOutcome }
-{
-}
+{}

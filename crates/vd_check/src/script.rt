@@ -31,13 +31,7 @@ fn side(returned: u32, term: &Term) -> Option<u32>
     ensures { result ≡ side returned term.now }
 {
     match term {
-        Term::Var(number, Sort::Val) => {
-            if *number == 0 {
-                Some(returned)
-            } else {
-                None
-            }
-        }
+        Term::Var(number, Sort::Val) => { if *number == 0 { Some(returned) } else { None } }
         Term::App(Op::Vi, args) => vi_of(args.as_slice()),
         Term::Num(_) | Term::Var(_, _) | Term::Named(_) | Term::Global(_) | Term::App(_, _) => None,
     }
@@ -143,12 +137,7 @@ fn rule_of(step: &StepNode) -> u8
 // ---- scripts
 
 /// Follows a script from a state. The loop goes once for each step, whatever the length of the body.
-fn follow(
-    post: &Assertion,
-    locals: &mut [Option<u32>],
-    body: &[TStmt],
-    script: &[Step],
-) -> Verdict
+fn follow(post: &Assertion, locals: &mut [Option<u32>], body: &[TStmt], script: &[Step]) -> Verdict
     ensures { HasVerdictFrom post.now 0 (record { locals = locals.old; left = body.now }) script.now result }
 {
     let mut last = 0;

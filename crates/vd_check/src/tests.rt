@@ -25,10 +25,12 @@ enum Line {
 }
 
 const TWO_AND_THREE: Value = Value::Two(BinOp::Add, Leaf::Number(2), Leaf::Number(3));
+
 const SUM: &[Line] = &[
     Line::Set(0, TWO_AND_THREE),
     Line::Return(Value::One(Leaf::Temporary(0))),
 ];
+
 const LARGEST: &[Line] = &[
     Line::Set(0, Value::One(Leaf::Number(2147483647))),
     Line::Set(
@@ -37,6 +39,7 @@ const LARGEST: &[Line] = &[
     ),
     Line::Return(Value::One(Leaf::Temporary(0))),
 ];
+
 const TOO_LARGE: &[Line] = &[
     Line::Set(
         0,
@@ -44,24 +47,21 @@ const TOO_LARGE: &[Line] = &[
     ),
     Line::Return(Value::One(Leaf::Temporary(0))),
 ];
+
 const NEGATIVE: &[Line] = &[
-    Line::Set(
-        0,
-        Value::Two(BinOp::Sub, Leaf::Number(0), Leaf::Number(1)),
-    ),
+    Line::Set(0, Value::Two(BinOp::Sub, Leaf::Number(0), Leaf::Number(1))),
     Line::Return(Value::One(Leaf::Temporary(0))),
 ];
+
 const NEGATIVE_AGAIN: &[Line] = &[
-    Line::Set(
-        0,
-        Value::Two(BinOp::Sub, Leaf::Number(0), Leaf::Number(1)),
-    ),
+    Line::Set(0, Value::Two(BinOp::Sub, Leaf::Number(0), Leaf::Number(1))),
     Line::Set(
         1,
         Value::Two(BinOp::Add, Leaf::Temporary(0), Leaf::Number(1)),
     ),
     Line::Return(Value::One(Leaf::Temporary(1))),
 ];
+
 const UNSET: &[Line] = &[
     Line::Set(
         0,
@@ -69,8 +69,11 @@ const UNSET: &[Line] = &[
     ),
     Line::Return(Value::One(Leaf::Temporary(0))),
 ];
+
 const UNSET_RETURN: &[Line] = &[Line::Return(Value::One(Leaf::Temporary(1)))];
+
 const BEHIND_RETURN: &[Line] = &[Line::Return(TWO_AND_THREE), Line::Set(0, TWO_AND_THREE)];
+
 const NO_RETURN: &[Line] = &[Line::Set(0, TWO_AND_THREE)];
 
 fn name(alloc: Global, bytes: &[u8]) -> Result<Name, AllocError> {
@@ -173,7 +176,13 @@ fn scripts_have_their_verdicts(rt: HostRuntime) -> Result<(), AllocError> {
         (SUM, b"sr", 1, -4294967291, Verdict::Refused(2, 9, 3)),
         (SUM, b"", 1, 5, Verdict::Refused(1, 0, 10)),
         (SUM, b"s", 1, 5, Verdict::Refused(2, 0, 10)),
-        (SUM, b"s", 4294967295, 5, Verdict::Refused(4294967295, 0, 10)),
+        (
+            SUM,
+            b"s",
+            4294967295,
+            5,
+            Verdict::Refused(4294967295, 0, 10),
+        ),
         (SUM, b"srs", 1, 5, Verdict::Refused(3, 0, 11)),
         (SUM, b"r", 1, 5, Verdict::Refused(1, 9, 1)),
         (SUM, b"ss", 1, 5, Verdict::Refused(2, 2, 1)),

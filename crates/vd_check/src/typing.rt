@@ -31,11 +31,7 @@ fn type_binary(
 }
 
 #[tactic(auto, unfolding(crate::specs::Typing::typed_expression))]
-fn type_expression(
-    alloc: Global,
-    table: &NameTable,
-    e: &Expr,
-) -> Result<Option<TExpr>, AllocError>
+fn type_expression(alloc: Global, table: &NameTable, e: &Expr) -> Result<Option<TExpr>, AllocError>
     ensures { IfOk result (λ t. t ≡ typed_expression (number table.now) e.now) }
 {
     match &e.node {

@@ -78,12 +78,7 @@ fn check_pair(alloc: Global, pair: &Pair, asked: &Name) -> Result<Outcome, Alloc
         return Ok(Outcome::NoLink);
     }
     let unit = &pair.unit;
-    let body = judge(
-        alloc,
-        &unit.spec.post,
-        &unit.typed,
-        unit.steps.as_slice(),
-    )?;
+    let body = judge(alloc, &unit.spec.post, &unit.typed, unit.steps.as_slice())?;
     let findings = findings_of(alloc, &unit.name, body)?;
     let findings = findings.as_slice();
     let failure = failure_of(alloc, findings);
