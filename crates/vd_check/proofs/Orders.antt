@@ -1,5 +1,5 @@
 -- Two texts in either order.
-use Rattle.std.proofs.Common.{◌≡◌, ◌⊎◌, inl, inr, ⊎_elim, ℕ, ◌≤◌, ◌<◌, suc, List, [], ◌∷◌, length, get_or, Option, None, Some, Result, Ok, Err, IfOk, MatchOption, refl, ap, sym, ◌∙◌, subst, arith}
+use Rattle.std.proofs.Common.{◌≡◌, inl, inr, ⊎_elim, ◌≤◌, ◌<◌, List, [], ◌∷◌, length, get_or, Option, None, Some, Result, Ok, Err, IfOk, MatchOption, sym, subst, arith}
 use Rattle.vd_form.specs.Sections.{Finds}
 use Rattle.vd_check.specs.declared.form.Pair.{Pair}
 use Rattle.vd_check.specs.Form.{Entry, ArePair, AreTexts, HasForm}

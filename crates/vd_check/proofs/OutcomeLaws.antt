@@ -1,15 +1,14 @@
 -- A unit and a link give one outcome.
-use Rattle.std.proofs.Common.{◌≡◌, ℕ, true, false, List, refl, ap, sym, ◌∙◌}
+use Rattle.std.proofs.Common.{◌≡◌, List, refl, ap, sym, ◌∙◌}
 use Rattle.vd_check.specs.declared.form.Pair.{Pair}
 use Rattle.vd_check.specs.declared.form.UnitParts.{UnitParts}
 use Rattle.vd_check.specs.declared.report.Finding.{Finding}
 use Rattle.vd_check.specs.declared.store.Linkset.{Linkset}
-use Rattle.vd_check.specs.declared.store.Outcome.{Outcome}
 use Rattle.vd_check.specs.declared.store.Outcome.TheVariants as outcome
 use Rattle.vd_check.specs.declared.store.Report.{Report}
 use Rattle.vd_check.specs.Laws.{OneOutcome}
-use Rattle.vd_check.specs.Report.{are_accepted, report_lines}
-use Rattle.vd_check.specs.Scratch.{AreFindings, Reports, Gives, findings_of, failure_of, linkset_of}
+use Rattle.vd_check.specs.Report.{report_lines}
+use Rattle.vd_check.specs.Scratch.{AreFindings, Reports, findings_of, failure_of, linkset_of}
 use Rattle.vd_check.proofs.VerdictLaws.{one_verdict}
 
 same_findings : (u : UnitParts) (fs gs : List Finding) → AreFindings u fs → AreFindings u gs → fs ≡ gs

@@ -1,5 +1,5 @@
 -- What a return of a value does.
-use Rattle.std.proofs.Common.{◌≡◌, Bool, true, false, ◌&&◌, if◌then◌else◌, [], Option, None, Some, option_map, ap, sym, ◌∙◌}
+use Rattle.std.proofs.Common.{◌≡◌, Bool, true, false, ◌&&◌, if◌then◌else◌, [], Option, None, Some, option_map, ap, ◌∙◌}
 use Rattle.vd_logic.specs.declared.assertion.Assertion.{Assertion}
 use Rattle.vd_check.specs.declared.value.Evaluated.{Evaluated}
 use Rattle.vd_check.specs.Value.{Value}

@@ -1,5 +1,5 @@
 -- Values of expressions, one layer at a time.
-use Rattle.std.proofs.Common.{◌≡◌, ℕ, ℤ, pos, ◌+ℤ◌, ◌-ℤ◌, Bool, true, ◌&&◌, List, [], ◌∷◌, ◌++◌, Option, None, Some, option_map, refl, ap, ◌∙◌}
+use Rattle.std.proofs.Common.{◌≡◌, ℤ, pos, ◌+ℤ◌, ◌-ℤ◌, ◌&&◌, Option, Some, option_map, refl, ap, ◌∙◌}
 use Rattle.std.proofs.Math.Bool.{and-true}
 use Rattle.std.proofs.lemmas.List.Folds.{list_all-append}
 use Rattle.vd_clight.specs.declared.syntax.BinOp.{BinOp}
@@ -8,7 +8,7 @@ use Rattle.vd_clight.specs.declared.typed.Kind.{Kind}
 use Rattle.vd_clight.specs.declared.typed.Kind.TheVariants.{Signed}
 use Rattle.vd_clight.specs.declared.typed.TExpr.{TExpr, Binary, fold_out-TExpr}
 use Rattle.vd_clight.specs.declared.typed.Part.TheViews.{outs-Binary}
-use Rattle.vd_check.specs.Value.{Value, Locals, value, value_layer, binary_value, computed, is_proved, is_signed, wrapped}
+use Rattle.vd_check.specs.Value.{Value, Locals, value, binary_value, computed, is_proved, is_signed, wrapped}
 use Rattle.vd_check.specs.Evaluated.{evaluated, evaluated_binary, operated}
 
 value-Binary : (locals : Locals) (o : BinOp) (k : Kind) (a b : TExpr) → value locals (Binary o k a b) ≡ binary_value o k (value locals a) (value locals b)

@@ -1,5 +1,5 @@
 -- A script gives one verdict: it is a function of the script.
-use Rattle.std.proofs.Common.{◌≡◌, ℕ, ◌+◌, List, [], ◌∷◌, refl, ap, sym, ◌∙◌}
+use Rattle.std.proofs.Common.{◌≡◌, ℕ, ◌+◌, List, [], ◌∷◌, ap, sym, ◌∙◌}
 use Rattle.vd_logic.specs.declared.assertion.Assertion.{Assertion}
 use Rattle.vd_logic.specs.declared.step.Step.{Step}
 use Rattle.vd_check.specs.declared.store.Verdict.{Verdict}

@@ -1,5 +1,5 @@
 -- What judging needs of a value: its number, and whether all that it owes is proved.
-use Rattle.std.specs.Prelude.{ℕ, ℤ, pos, ◌+ℤ◌, ◌-ℤ◌, Bool, ◌&&◌, Option, None, Some}
+use Rattle.std.specs.Prelude.{ℤ, pos, ◌+ℤ◌, ◌-ℤ◌, ◌&&◌, Option, None, Some}
 use Rattle.vd_clight.specs.declared.syntax.BinOp.{BinOp}
 use Rattle.vd_clight.specs.declared.syntax.BinOp.TheVariants as op
 use Rattle.vd_clight.specs.declared.typed.Kind.{Kind}

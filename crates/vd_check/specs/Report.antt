@@ -1,5 +1,5 @@
 -- The lines of a report.
-use Rattle.std.specs.Prelude.{◌≡◌, ℕ, Bool, true, false, List, [], ◌∷◌, ◌++◌, codes, Option, None, Some, map, flat_map, decimal}
+use Rattle.std.specs.Prelude.{ℕ, Bool, true, false, List, [], ◌∷◌, ◌++◌, codes, Option, None, Some, map, flat_map, decimal}
 use Rattle.std.specs.List.{list_all}
 use Rattle.vd_check.specs.declared.report.Finding.{Finding}
 use Rattle.vd_check.specs.declared.report.Failure.{Failure}

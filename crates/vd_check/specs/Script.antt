@@ -1,7 +1,6 @@
 -- Proof scripts: what each step does to a symbolic state, which scripts are good, and where another one fails first.
-use Rattle.std.specs.Prelude.{◌≡◌, ℕ, zero, ◌+◌, ◌%◌, ◌^◌, pos, Bool, true, false, ◌&&◌, ◌==◌, List, [], ◌∷◌, Option, None, Some, if◌then◌else◌, length, map, option_map, min, slice_set}
+use Rattle.std.specs.Prelude.{◌≡◌, ℕ, zero, ◌+◌, ◌%◌, ◌^◌, pos, Bool, false, ◌&&◌, ◌==◌, List, [], ◌∷◌, Option, None, Some, if◌then◌else◌, map, option_map, min, slice_set}
 use Rattle.std.specs.List.{list_all}
-use Rattle.vd_clight.specs.declared.typed.TExpr.{TExpr}
 use Rattle.vd_clight.specs.declared.typed.TStmt.{TStmt, TStmt-F, out-TStmt}
 use Rattle.vd_clight.specs.declared.typed.TStmt.TheOpen as statement
 use Rattle.vd_clight.specs.declared.typed.TypedFn.{TypedFn}
@@ -12,14 +11,13 @@ use Rattle.vd_logic.specs.declared.assertion.Rel.TheVariants as rel
 use Rattle.vd_logic.specs.declared.step.Step.{Step}
 use Rattle.vd_logic.specs.declared.step.StepNode.{StepNode}
 use Rattle.vd_logic.specs.declared.step.StepNode.TheVariants as step
-use Rattle.vd_logic.specs.declared.term.Op.{Op}
 use Rattle.vd_logic.specs.declared.term.Op.TheVariants as op
 use Rattle.vd_logic.specs.declared.term.Sort.TheVariants as sort
 use Rattle.vd_logic.specs.declared.term.Term.{Term, Term-F, out-Term}
 use Rattle.vd_logic.specs.declared.term.Term.TheOpen as term
 use Rattle.vd_check.specs.declared.store.Verdict.{Verdict}
 use Rattle.vd_check.specs.declared.store.Verdict.TheVariants.{Accepted, Refused as RefusedAt}
-use Rattle.vd_check.specs.Value.{Value, Locals, value, is_proved, wrapped}
+use Rattle.vd_check.specs.Value.{Value, Locals, value, is_proved}
 
 -- ---- postconditions
 

@@ -1,8 +1,7 @@
 -- Typed functions of the form: all is `int`, and names become numbers.
-use Rattle.std.specs.Prelude.{◌≡◌, ℕ, ◌+◌, ◌==◌, Bool, true, false, not, ◌&&◌, List, [], ◌∷◌, Option, None, Some, cond, if◌then◌else◌, length, map, nat_le, option_map}
-use Rattle.std.specs.List.{list_all, list_any}
+use Rattle.std.specs.Prelude.{ℕ, ◌+◌, ◌==◌, Bool, true, false, not, ◌&&◌, List, [], ◌∷◌, Option, None, Some, cond, if◌then◌else◌, length, map, nat_le, option_map}
+use Rattle.std.specs.List.{list_any}
 use Rattle.std.specs.Str.{bytes_eq}
-use Rattle.vd_base.specs.declared.ctype.CType.{CType}
 use Rattle.vd_base.specs.declared.ctype.Field.{Field}
 use Rattle.vd_clight.specs.declared.syntax.BinOp.{BinOp}
 use Rattle.vd_clight.specs.declared.syntax.BinOp.TheVariants as op
