@@ -1,6 +1,6 @@
 //! Sections of a text.
 
-ghost use Rattle.std.specs.Prelude.{◌≡◌, ◌↔◌, IsTrue, option_copied};
+ghost use Rattle.std.specs.Prelude.{◌≡◌, ◌↔◌, IsTrue, IfSome, option_copied};
 ghost use Rattle.vd_outline.specs.Lookup.{is_called, section_called};
 
 use vd_base::{Name, Text};
@@ -53,7 +53,8 @@ pub fn find<'a>(
     kind: SectionKind,
     name: Option<&[u8]>,
 ) -> Option<&'a Section>
-    ensures { option_copied result ≡ section_called kind (option_copied name.entry) sections.now }
+    ensures first { option_copied result ≡ section_called kind (option_copied name.entry) sections.now }
+    ensures found { IfSome result (λ section. (section.now.kind ≡ kind) × (section.now.name ≡ option_copied name.entry)) }
 {
     for section in sections {
         if section.is(kind, name) {

@@ -1,8 +1,12 @@
+use Rattle.vd_outline.proofs.HeaderLaws.{header_line_unique}
 use Rattle.vd_outline.proofs.TextLaws.{one_head, one_outline, one_fault, has_head, no_outline}
 use Rattle.vd_outline.proofs.laws.outline_laws.Goals as goal
 
 pub returns-clause-head : goal.returns-clause-head
 returns-clause-head c = one_head
+
+pub returns-clause-header : goal.returns-clause-header
+returns-clause-header c = header_line_unique
 
 pub returns-clause-outline : goal.returns-clause-outline
 returns-clause-outline c = one_outline
