@@ -7,7 +7,7 @@ use Rattle.vd_gate.specs.declared.story.PastTurn.{PastTurn}
 use Rattle.vd_gate.specs.declared.view.View.{View}
 use Rattle.vd_gate.specs.Turns.{entries_by}
 use Rattle.vd_gate.specs.Rule.{modulus}
-use Rattle.vd_gate.specs.Views.{SeatState, with_seen, with_ticket, with_turn_held}
+use Rattle.vd_gate.specs.Views.{SeatState, with_seen, with_turn_held}
 use Rattle.vd_gate.specs.Steps.{TakesTurn, HasLooked, HasDrawn, HasEntered}
 use Rattle.vd_gate.proofs.Lists.{prefix_self, prefix_trans}
 
