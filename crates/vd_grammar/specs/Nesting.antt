@@ -2,6 +2,7 @@
 use Rattle.std.specs.Prelude.{ℕ, ◌<◌, ◌≡◌, List, [], ◌∷◌, ◌++◌}
 use Rattle.vd_grammar.specs.Grammar.{Grammar}
 
+-- A state behind each token, and how deep it is.
 pub record Nesting (G : Grammar) : Type 1 where
   pub State : Type 0
   pub start : State
@@ -12,10 +13,12 @@ pub record Nesting (G : Grammar) : Type 1 where
   pub start_below : depth start < limit
 
 module _ (G : Grammar) (N : Nesting G) where
+  -- the state behind tokens, from a state on
   abbrev pub state_from : N.State → List G.Token → N.State
   state_from state [] = state
   state_from state (t ∷ ts) = state_from (N.after t state) ts
 
+  -- the state behind the tokens of a text
   abbrev pub state_of : List G.Token → N.State
   state_of ts = state_from N.start ts
 

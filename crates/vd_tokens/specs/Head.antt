@@ -20,6 +20,7 @@ abbrev pub StopsAt : (ℕ → Bool) → List ℕ → Type 0
 StopsAt p [] = Unit {0}
 StopsAt p (b ∷ bs) = p b ≡ false
 
+-- The bytes begin with the one.
 abbrev pub starts_with : ℕ → List ℕ → Bool
 starts_with b [] = false
 starts_with b (c ∷ bs) = c == b

@@ -10,10 +10,12 @@ use Rattle.vd_tokens.specs.Bytes.{is_digit, is_letter, is_word_byte, is_blank, i
 use Rattle.vd_tokens.specs.Signs.{singles, pairs, is_single, is_two, is_pair, allows_suffix}
 use Rattle.vd_tokens.specs.Text.{IsDecimal, starts_close, has_close, Shape, Token, Gap, Unclosed, IsElement, word, number, suffixed, single, pair, blank, line, stars, unclosed}
 
+-- every byte passes, as a test
 abbrev pub all_bytes : (ℕ → Bool) → List ℕ → Bool
 all_bytes p [] = true
 all_bytes p (b ∷ bs) = p b && all_bytes p bs
 
+-- no byte is left
 abbrev pub is_nothing : List ℕ → Bool
 is_nothing [] = true
 is_nothing (b ∷ bs) = false
@@ -33,6 +35,7 @@ abbrev pub digits_on : Alphabet → List ℕ → Bool
 digits_on alphabet [] = true
 digits_on alphabet (b ∷ bs) = if is_digit b then digits_on alphabet bs else suffix_on alphabet (b ∷ bs)
 
+-- what stands behind the first digit of a number
 abbrev pub number_on : Alphabet → ℕ → List ℕ → Bool
 number_on alphabet b bs = if b == 48 then suffix_on alphabet bs else digits_on alphabet bs
 
@@ -41,18 +44,22 @@ abbrev pub closes_at_end : List ℕ → Bool
 closes_at_end [] = false
 closes_at_end (b ∷ bs) = if starts_close (b ∷ bs) then is_nothing (drop 1 bs) else closes_at_end bs
 
+-- behind `/*`
 abbrev pub stars_shape : List ℕ → Option Shape
 stars_shape bs = if has_close bs then when (closes_at_end bs) Gap else Some Unclosed
 
+-- behind `/`
 abbrev pub slash_shape : Alphabet → List ℕ → Option Shape
 slash_shape alphabet [] = when (is_single alphabet 47) (Token kind.Sign)
 slash_shape alphabet (b ∷ bs) = if b == 47 then when (all_bytes is_no_line_feed bs) Gap else (if b == 42 then stars_shape bs else None)
 
+-- a sign, given its first byte
 abbrev pub sign_on : Alphabet → ℕ → List ℕ → Bool
 sign_on alphabet b [] = is_single alphabet b
 sign_on alphabet b (c ∷ []) = is_pair alphabet b c
 sign_on alphabet b (c ∷ d ∷ bs) = false
 
+-- the shape of the bytes, if they have one
 abbrev pub shape_of : Alphabet → List ℕ → Option Shape
 shape_of alphabet [] = None
 shape_of alphabet (b ∷ bs) =

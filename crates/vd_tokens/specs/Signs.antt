@@ -19,6 +19,7 @@ abbrev pub allows_suffix : Alphabet → Bool
 allows_suffix C = true
 allows_suffix Logic = false
 
+-- The byte is a sign.
 abbrev pub is_single : Alphabet → ℕ → Bool
 is_single alphabet b = list_any (λ x. x == b) (singles alphabet)
 
@@ -27,5 +28,6 @@ abbrev pub is_two : List ℕ → ℕ → ℕ → Bool
 is_two (x ∷ y ∷ []) b c = x == b && y == c
 is_two _ b c = false
 
+-- The two bytes are a sign.
 abbrev pub is_pair : Alphabet → ℕ → ℕ → Bool
 is_pair alphabet b c = list_any (λ x. is_two x b c) (pairs alphabet)
