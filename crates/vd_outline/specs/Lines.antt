@@ -7,6 +7,7 @@ use Rattle.std.specs.Str.{bytes_eq}
 abbrev pub is_line_byte : ℕ → Bool
 is_line_byte b = nat_le 32 b && nat_le b 126
 
+-- printable bytes alone
 abbrev pub is_line : List ℕ → Bool
 is_line line = list_all is_line_byte line
 

@@ -10,6 +10,7 @@ use Rattle.vd_outline.specs.declared.section.SectionKind.{SectionKind}
 use Rattle.vd_outline.specs.declared.section.SectionKind.TheVariants as section
 use Rattle.vd_outline.specs.Lines.{is_line, joined, is_end}
 
+-- the bytes of a text, a line or a name
 abbrev pub Bytes : Type 0
 Bytes = List ℕ
 
@@ -21,6 +22,7 @@ kind_word Interface = codes "interface"
 kind_word UnitText = codes "unit"
 kind_word Link = codes "link"
 
+-- that word, a space and the name
 abbrev pub head_line : TextKind → Bytes → Bytes
 head_line kind name = kind_word kind ++ 32 ∷ name
 
@@ -32,6 +34,7 @@ pub record HasHead (text : Bytes) (kind : TextKind) (name : Bytes) : Type 0 wher
 
 -- ---- sections
 
+-- the word that the header line of such a section begins with
 abbrev pub section_word : SectionKind → Bytes
 section_word section.Uses = codes "uses"
 section_word section.Exports = codes "exports"
@@ -74,6 +77,7 @@ stands_in section.Sub UnitText = true
 stands_in section.Init UnitText = true
 stands_in _ _ = false
 
+-- that word, and where there is a name a space and the name
 abbrev pub header_line : SectionKind → Option Bytes → Bytes
 header_line kind None = section_word kind
 header_line kind (Some name) = section_word kind ++ 32 ∷ name

@@ -8,6 +8,7 @@ use Rattle.vd_outline.specs.declared.section.SectionKind.{SectionKind}
 use Rattle.vd_outline.specs.declared.section.SectionKind.TheVariants as section
 use Rattle.vd_outline.specs.Outline.{Bytes, kind_word, section_word}
 
+-- each kind of text
 abbrev pub text_kinds : List TextKind
 text_kinds = Interface ∷ UnitText ∷ Link ∷ []
 
@@ -15,6 +16,7 @@ text_kinds = Interface ∷ UnitText ∷ Link ∷ []
 abbrev pub text_kind_from : Bytes → Option TextKind
 text_kind_from word = find (λ kind. bytes_eq word (kind_word kind)) text_kinds
 
+-- each kind of section
 abbrev pub section_kinds : List SectionKind
 section_kinds = section.Uses ∷ section.Exports ∷ section.Units ∷ section.Struct ∷ section.Global ∷ section.Abstract
     ∷ section.Pred ∷ section.Spec ∷ section.Fn ∷ section.Script ∷ section.Sub ∷ section.Init ∷ []

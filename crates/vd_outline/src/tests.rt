@@ -74,11 +74,11 @@ fn texts_have_their_outlines(rt: HostRuntime) -> Result<(), AllocError> {
 #[test]
 fn sections_are_found(rt: HostRuntime) -> Result<(), AllocError> {
     let text = Text::new(rt.alloc(), UNIT)?;
-    let head = head_of(rt.alloc(), &text)?;
-    if let Some((kind, name)) = head {
-        assert!(rt; kind == TextKind::Unit);
-        assert!(rt; name.as_bytes() == b"u".as_slice());
-    }
+    let Some((kind, name)) = head_of(rt.alloc(), &text)? else {
+        return Err(AllocError);
+    };
+    assert!(rt; kind == TextKind::Unit);
+    assert!(rt; name.as_bytes() == b"u".as_slice());
     let Ok(outline) = outline_of(rt.alloc(), &text) else {
         return Err(AllocError);
     };
