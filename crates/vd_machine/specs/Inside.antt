@@ -1,5 +1,10 @@
 -- What the fields of a machine stand for, and what is true of them.
-use Rattle.std.specs.Prelude.{◌≡◌, ℕ, ◌+◌, ◌<◌, ◌≤◌, ◌^◌, List, Option, length}
+use Rattle.std.specs.Prelude.{◌≡◌, ℕ, ◌+◌, ◌-◌, ◌<◌, ◌≤◌, ◌^◌, true, false, List, ◌++◌, Option, length, map, take, replicate}
+use Rattle.vd_clight.specs.declared.program.GlobalDef.{GlobalDef}
+use Rattle.vd_mem.specs.declared.value.Value.TheVariants.{Int}
+use Rattle.vd_mem.specs.declared.value.Cell.TheVariants.{Data}
+use Rattle.vd_machine.specs.Start.{init_value}
+use Rattle.vd_machine.specs.Step.{room}
 use Rattle.vd_clight.specs.declared.program.Program.{Program}
 use Rattle.vd_mem.specs.Memory.{Block}
 use Rattle.vd_machine.specs.declared.answer.End.{End}
@@ -15,3 +20,11 @@ pub record IsSound (p : Program) (rooms : List ℕ) (ts : List (Option Thread)) 
   pub globals : length p.globals < 2 ^ 30
   pub rooms_are : length rooms ≡ length p.fns
   pub blocks : length m ≤ steps
+
+-- the block of a global after its first i initial values
+abbrev pub partly : List GlobalDef → GlobalDef → ℕ → Block
+partly globals g i = record {
+  cells = map (λ x. Data (init_value globals x)) (take i g.init) ++ replicate (room g.cells - i) (Data (Int 0));
+  is_live = true;
+  is_heap = false
+  }
