@@ -31,9 +31,9 @@ pub call_is :
     Does (acted p pick (statement.Call target name es) t m) t u m m did.Moved
 call_is p pick target name es t u m f vs v g top waiting = record {
   is = ap₂ (λ fr cs. Moved (Running fr cs) m) top waiting
-    ∙ ap₂ (λ r h. after_call r h target (frame_of (passed t.top)) (callers_of t.waiting.items) m) v g;
-  keeps = tt
-  }
+      ∙ ap₂ (λ r h. after_call r h target (frame_of (passed t.top)) (callers_of t.waiting.items) m) v g;
+  keeps = tt;
+}
 
 pub spawn_is :
     (p : Program) (pick : Bool) (name : List ℕ) (e : TExpr) (t u new : KeptThread) (m : List Block) (f : TypedFn) (v : Value) →
@@ -42,9 +42,9 @@ pub spawn_is :
     Does (acted p pick (statement.Spawn name e) t m) t u m m (did.Forked new)
 spawn_is p pick name e t u new m f v r g made old = record {
   is = ap₂ (λ th k. Forked th k m) old made
-    ∙ ap₂ (λ r h. after_spawn r h (frame_of (passed t.top)) (callers_of t.waiting.items) m) r g;
-  keeps = tt
-  }
+      ∙ ap₂ (λ r h. after_spawn r h (frame_of (passed t.top)) (callers_of t.waiting.items) m) r g;
+  keeps = tt;
+}
 
 -- what holds at each pick holds at one
 pub at_pick : {T E : Type 0} (r : Result T E) (P : Bool → T → Type 0) → IfOk r (λ d. (pick : Bool) → P pick d) → (pick : Bool) → IfOk r (λ d. P pick d)

@@ -49,4 +49,4 @@ partly_more globals g m now next i b x l h e at is put_is =
     put_is ∙ ap₂ (λ k w. put w k i (Data (init_value globals x))) at is
     ∙ changed_last m (partly globals g i) (λ y. block_put y i (Data (init_value globals x)))
     ∙ ap (λ cells. m ++ record { cells = cells; is_live = true; is_heap = false } ∷ [])
-        (cells_more (λ y. Data (init_value globals y)) g.init (room g.cells) i (Data (Int 0)) x l h e)
+    (cells_more (λ y. Data (init_value globals y)) g.init (room g.cells) i (Data (Int 0)) x l h e)

@@ -147,16 +147,16 @@ act_grows p pick (statement.Load x l) fr cs m =
     effect_grows m (on_value (address p.globals fr.temps l) (λ v. load x v fr.temps m)) fr cs (on_value_grows m (address p.globals fr.temps l) (λ v. load x v fr.temps m) (λ v. load_grows x v fr.temps m))
 act_grows p pick (statement.Store l e) fr cs m =
     effect_grows m (on_value (address p.globals fr.temps l) (λ place. on_value (eval p.globals fr.temps e) (λ v. store place v fr.temps m))) fr cs
-        (on_value_grows m (address p.globals fr.temps l) (λ place. on_value (eval p.globals fr.temps e) (λ v. store place v fr.temps m))
-            (λ place. on_value_grows m (eval p.globals fr.temps e) (λ v. store place v fr.temps m) (λ v. store_grows place v fr.temps m)))
+    (on_value_grows m (address p.globals fr.temps l) (λ place. on_value (eval p.globals fr.temps e) (λ v. store place v fr.temps m))
+    (λ place. on_value_grows m (eval p.globals fr.temps e) (λ v. store place v fr.temps m) (λ v. store_grows place v fr.temps m)))
 act_grows p pick (statement.Call x f es) fr cs m = call_grows (eval_all p.globals fr.temps es) (function p f) x fr cs m
 act_grows p pick (statement.Malloc x n) fr cs m = effect_grows m (malloc pick x n fr.temps m) fr cs (malloc_grows pick x n fr.temps m)
 act_grows p pick (statement.Free e) fr cs m =
     effect_grows m (on_value (eval p.globals fr.temps e) (λ v. free v fr.temps m)) fr cs (on_value_grows m (eval p.globals fr.temps e) (λ v. free v fr.temps m) (λ v. free_grows v fr.temps m))
 act_grows p pick (statement.Lock op e) fr cs m =
     effect_grows m (on_value (eval p.globals fr.temps e) (λ place. on_place place (λ b o. lock_at op b o fr.temps m))) fr cs
-        (on_value_grows m (eval p.globals fr.temps e) (λ place. on_place place (λ b o. lock_at op b o fr.temps m))
-            (λ place. on_place_grows m place (λ b o. lock_at op b o fr.temps m) (λ b o. lock_grows op b o fr.temps m)))
+    (on_value_grows m (eval p.globals fr.temps e) (λ place. on_place place (λ b o. lock_at op b o fr.temps m))
+    (λ place. on_place_grows m place (λ b o. lock_at op b o fr.temps m) (λ b o. lock_grows op b o fr.temps m)))
 act_grows p pick (statement.Spawn f e) fr cs m = spawn_grows (eval p.globals fr.temps e) (function p f) fr cs m
 act_grows p pick (statement.If c a b) fr cs m = test_grows (test p.globals fr.temps m c) a b fr cs m
 act_grows p pick (statement.Loop s) fr cs m = same m

@@ -92,7 +92,7 @@ pub stays :
     thread_of u ≡ thread_of t → m' ≡ m → system_of (slice_set xs n (Some u)) m' ≡ system_of xs m
 stays xs n m m' t u l e same kept =
     ap₂ (λ ts b. record { threads = ts; memory = b })
-        (set-map xs n (Some u) ∙ ap (λ th. slice_set (map slot_of xs) n th) same ∙ set-same (map slot_of xs) n (thread_of t) (slot_at xs n (Some t) l e)) kept
+    (set-map xs n (Some u) ∙ ap (λ th. slice_set (map slot_of xs) n th) same ∙ set-same (map slot_of xs) n (thread_of t) (slot_at xs n (Some t) l e)) kept
 
 pub leaves_ended : (xs : List (Option KeptThread)) (n : ℕ) (u : KeptThread) (m m' : List Block) → m' ≡ m →
     system_of (slice_set (slice_set xs n (Some u)) n None) m' ≡ set_thread (system_of xs m) n Ended

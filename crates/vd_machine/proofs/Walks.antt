@@ -28,10 +28,10 @@ pub walked_more :
     negsuc 2147483647 ≤ℤ d → d ≤ℤ pos 4294967295 → w ≡ z +ℤ d → Walked (map f path) from (i + 1) w
 walked_more f path from i z d w x l e v h low high is = record {
   same = λ b. h.same b ∙ ap (λ ps. moved b z ps) (mapped_at f path i x l e) ∙ ap (λ r. moved b z (r ∷ drop (i + 1) (map f path))) (sym v)
-    ∙ ap (λ y. moved b y (drop (i + 1) (map f path))) (sym is);
+      ∙ ap (λ y. moved b y (drop (i + 1) (map f path))) (sym is);
   low = let a = h.low in omega (arith, ints);
-  high = let a = h.high in omega (arith, ints)
-  }
+  high = let a = h.high in omega (arith, ints);
+}
 
 pub walked_fault :
     (f : Part → Result ℤ Cause) (path : List Part) (from i : ℕ) (z : ℤ) (c : Cause) (x : Part) →

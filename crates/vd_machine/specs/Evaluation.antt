@@ -130,7 +130,7 @@ same_answer false same = not same
 abbrev pub pointer_test : List Block → Bool → Value → Value → Result Bool Cause
 pointer_test m flag v u =
     cond (is_undef v || is_undef u) (Err cause.Undef)
-        (cond (is_tested m v && is_tested m u) (Ok (same_answer flag (same_value v u))) (Err cause.Pointer))
+    (cond (is_tested m v && is_tested m u) (Ok (same_answer flag (same_value v u))) (Err cause.Pointer))
 
 -- a condition
 abbrev pub test : List GlobalDef → Temps → List Block → Cond → Result Bool Cause

@@ -26,5 +26,5 @@ abbrev pub partly : List GlobalDef → GlobalDef → ℕ → Block
 partly globals g i = record {
   cells = map (λ x. Data (init_value globals x)) (take i g.init) ++ replicate (room g.cells - i) (Data (Int 0));
   is_live = true;
-  is_heap = false
-  }
+  is_heap = false;
+}

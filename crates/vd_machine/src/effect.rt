@@ -46,7 +46,12 @@ pub(crate) fn load(temps: &mut Vec<Value>, memory: &Memory, number: u32, place: 
     }
 }
 
-pub(crate) fn store(temps: &[Value], memory: &mut Memory, place: Value, value: Value) -> Result<Effect, AllocError>
+pub(crate) fn store(
+    temps: &[Value],
+    memory: &mut Memory,
+    place: Value,
+    value: Value,
+) -> Result<Effect, AllocError>
     ensures effect { IfOk result (λ e. effect_by e temps.now memory.new ≡ store place value temps.now memory.old) }
     ensures kept { IfOk result (λ e. KeepsUnlessGoes e (memory.new ≡ memory.old)) }
     ensures err { OnErr result (memory.new ≡ memory.old) }
@@ -173,7 +178,12 @@ fn unmake(temps: &[Value], memory: &mut Memory, block: u32, offset: u32) -> Effe
     }
 }
 
-pub(crate) fn lock(temps: &[Value], memory: &mut Memory, op: LockOp, place: Value) -> Result<Effect, AllocError>
+pub(crate) fn lock(
+    temps: &[Value],
+    memory: &mut Memory,
+    op: LockOp,
+    place: Value,
+) -> Result<Effect, AllocError>
     ensures effect { IfOk result (λ e. effect_by e temps.now memory.new ≡ on_place place (λ b o. lock_at op b o temps.now memory.old)) }
     ensures kept { IfOk result (λ e. KeepsUnlessGoes e (memory.new ≡ memory.old)) }
     ensures err { OnErr result (memory.new ≡ memory.old) }

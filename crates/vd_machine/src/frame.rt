@@ -63,7 +63,11 @@ pub(crate) fn settle(frame: &mut Frame)
 }
 
 /// Past the statement, into a list of statements.
-pub(crate) fn enter<'p>(frame: &mut Frame<'p>, list: &'p [TStmt], is_loop: bool) -> Result<(), AllocError>
+pub(crate) fn enter<'p>(
+    frame: &mut Frame<'p>,
+    list: &'p [TStmt],
+    is_loop: bool,
+) -> Result<(), AllocError>
     requires { frame.old.level.at < length frame.old.level.list.now }
     ensures code { OnOk result (frame_code frame.new ≡ inside is_loop list.now 0 (frame_code (record frame.old { level = record frame.old.level { at = frame.old.level.at + 1 } }))) }
     ensures temps { frame.new.temps ≡ frame.old.temps }

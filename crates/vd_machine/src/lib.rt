@@ -11,5 +11,5 @@ mod statement;
 mod turn;
 mod word;
 
-pub use machine::Machine;
 pub use answer::{Cause, End, Outcome, Spot, Stepped, Turn};
+pub use machine::Machine;

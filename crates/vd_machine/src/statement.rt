@@ -84,7 +84,13 @@ fn nothing<'p>(program: &Program, thread: &mut Thread<'p>, memory: &Memory) -> D
     Did::Moved
 }
 
-fn set<'p>(program: &Program, thread: &mut Thread<'p>, memory: &Memory, number: u32, e: &TExpr) -> Did<'p>
+fn set<'p>(
+    program: &Program,
+    thread: &mut Thread<'p>,
+    memory: &Memory,
+    number: u32,
+    e: &TExpr,
+) -> Did<'p>
     requires globals { length program.now.globals < 2 ^ 30 }
     requires at { thread.old.top.level.at < length thread.old.top.level.list.now }
     ensures { (pick : Bool) → Does (acted program.now pick (layer.Set number e.now) thread.old memory.now) thread.old thread.new memory.now memory.now result }
@@ -99,12 +105,22 @@ fn set<'p>(program: &Program, thread: &mut Thread<'p>, memory: &Memory, number: 
     }
 }
 
-fn load<'p>(program: &Program, thread: &mut Thread<'p>, memory: &Memory, number: u32, place: &Lval) -> Did<'p>
+fn load<'p>(
+    program: &Program,
+    thread: &mut Thread<'p>,
+    memory: &Memory,
+    number: u32,
+    place: &Lval,
+) -> Did<'p>
     requires globals { length program.now.globals < 2 ^ 30 }
     requires at { thread.old.top.level.at < length thread.old.top.level.list.now }
     ensures { (pick : Bool) → Does (acted program.now pick (layer.Load number place.now) thread.old memory.now) thread.old thread.new memory.now memory.now result }
 {
-    match address(program.globals.as_slice(), thread.top.temps.as_slice(), place) {
+    match address(
+        program.globals.as_slice(),
+        thread.top.temps.as_slice(),
+        place,
+    ) {
         Ok(place) => {
             let effect = effect::load(&mut thread.top.temps, memory, number, place);
             after(thread, effect)
@@ -113,13 +129,23 @@ fn load<'p>(program: &Program, thread: &mut Thread<'p>, memory: &Memory, number:
     }
 }
 
-fn store<'p>(program: &Program, thread: &mut Thread<'p>, memory: &mut Memory, place: &Lval, e: &TExpr) -> Result<Did<'p>, AllocError>
+fn store<'p>(
+    program: &Program,
+    thread: &mut Thread<'p>,
+    memory: &mut Memory,
+    place: &Lval,
+    e: &TExpr,
+) -> Result<Did<'p>, AllocError>
     requires globals { length program.now.globals < 2 ^ 30 }
     requires at { thread.old.top.level.at < length thread.old.top.level.list.now }
     ensures ok { IfOk result (λ d. (pick : Bool) → Does (acted program.now pick (layer.Store place.now e.now) thread.old memory.old) thread.old thread.new memory.old memory.new d) }
     ensures err { OnErr result (Same thread.old thread.new memory.old memory.new) }
 {
-    match address(program.globals.as_slice(), thread.top.temps.as_slice(), place) {
+    match address(
+        program.globals.as_slice(),
+        thread.top.temps.as_slice(),
+        place,
+    ) {
         Ok(place) => match eval(program.globals.as_slice(), thread.top.temps.as_slice(), e) {
             Ok(value) => {
                 let effect = effect::store(thread.top.temps.as_slice(), memory, place, value)?;
@@ -131,7 +157,14 @@ fn store<'p>(program: &Program, thread: &mut Thread<'p>, memory: &mut Memory, pl
     }
 }
 
-fn malloc<'p>(program: &Program, thread: &mut Thread<'p>, memory: &mut Memory, pick: bool, number: u32, cells: u32) -> Result<Did<'p>, AllocError>
+fn malloc<'p>(
+    program: &Program,
+    thread: &mut Thread<'p>,
+    memory: &mut Memory,
+    pick: bool,
+    number: u32,
+    cells: u32,
+) -> Result<Did<'p>, AllocError>
     requires at { thread.old.top.level.at < length thread.old.top.level.list.now }
     requires blocks { length memory.old < 2 ^ 31 }
     ensures ok { IfOk result (λ d. Does (acted program.now pick (layer.Malloc number cells) thread.old memory.old) thread.old thread.new memory.old memory.new d) }
@@ -155,7 +188,13 @@ fn free<'p>(program: &Program, thread: &mut Thread<'p>, memory: &mut Memory, e: 
     }
 }
 
-fn lock<'p>(program: &Program, thread: &mut Thread<'p>, memory: &mut Memory, op: LockOp, e: &TExpr) -> Result<Did<'p>, AllocError>
+fn lock<'p>(
+    program: &Program,
+    thread: &mut Thread<'p>,
+    memory: &mut Memory,
+    op: LockOp,
+    e: &TExpr,
+) -> Result<Did<'p>, AllocError>
     requires globals { length program.now.globals < 2 ^ 30 }
     requires at { thread.old.top.level.at < length thread.old.top.level.list.now }
     ensures ok { IfOk result (λ d. (pick : Bool) → Does (acted program.now pick (layer.Lock op e.now) thread.old memory.old) thread.old thread.new memory.old memory.new d) }
@@ -170,13 +209,25 @@ fn lock<'p>(program: &Program, thread: &mut Thread<'p>, memory: &mut Memory, op:
     }
 }
 
-fn choose<'p>(program: &Program, thread: &mut Thread<'p>, memory: &Memory, condition: &Cond, yes: &'p List<TStmt>, no: &'p List<TStmt>) -> Result<Did<'p>, AllocError>
+fn choose<'p>(
+    program: &Program,
+    thread: &mut Thread<'p>,
+    memory: &Memory,
+    condition: &Cond,
+    yes: &'p List<TStmt>,
+    no: &'p List<TStmt>,
+) -> Result<Did<'p>, AllocError>
     requires globals { length program.now.globals < 2 ^ 30 }
     requires at { thread.old.top.level.at < length thread.old.top.level.list.now }
     ensures ok { IfOk result (λ d. (pick : Bool) → Does (acted program.now pick (layer.If condition.now yes.now no.now) thread.old memory.now) thread.old thread.new memory.now memory.now d) }
     ensures err { OnErr result (Same thread.old thread.new memory.now memory.now) }
 {
-    match test(program.globals.as_slice(), thread.top.temps.as_slice(), memory, condition) {
+    match test(
+        program.globals.as_slice(),
+        thread.top.temps.as_slice(),
+        memory,
+        condition,
+    ) {
         Ok(true) => {
             enter(&mut thread.top, yes.as_slice(), false)?;
             Ok(Did::Moved)
@@ -189,7 +240,12 @@ fn choose<'p>(program: &Program, thread: &mut Thread<'p>, memory: &Memory, condi
     }
 }
 
-fn begin<'p>(program: &Program, thread: &mut Thread<'p>, memory: &Memory, body: &'p List<TStmt>) -> Result<Did<'p>, AllocError>
+fn begin<'p>(
+    program: &Program,
+    thread: &mut Thread<'p>,
+    memory: &Memory,
+    body: &'p List<TStmt>,
+) -> Result<Did<'p>, AllocError>
     requires at { thread.old.top.level.at < length thread.old.top.level.list.now }
     ensures ok { IfOk result (λ d. (pick : Bool) → Does (acted program.now pick (layer.Loop body.now) thread.old memory.now) thread.old thread.new memory.now memory.now d) }
     ensures err { OnErr result (Same thread.old thread.new memory.now memory.now) }
@@ -222,7 +278,12 @@ fn skip_rest<'p>(program: &Program, thread: &mut Thread<'p>, memory: &Memory) ->
     }
 }
 
-fn give_back<'p>(program: &Program, thread: &mut Thread<'p>, memory: &Memory, e: &Option<TExpr>) -> Did<'p>
+fn give_back<'p>(
+    program: &Program,
+    thread: &mut Thread<'p>,
+    memory: &Memory,
+    e: &Option<TExpr>,
+) -> Did<'p>
     requires globals { length program.now.globals < 2 ^ 30 }
     ensures { (pick : Bool) → Does (acted program.now pick (layer.Return e.now) thread.old memory.now) thread.old thread.new memory.now memory.now result }
 {
@@ -236,7 +297,11 @@ fn give_back<'p>(program: &Program, thread: &mut Thread<'p>, memory: &Memory, e:
 }
 
 /// Past the statement, into a new frame.
-fn descend<'p>(thread: &mut Thread<'p>, frame: Frame<'p>, target: Option<u32>) -> Result<(), AllocError>
+fn descend<'p>(
+    thread: &mut Thread<'p>,
+    frame: Frame<'p>,
+    target: Option<u32>,
+) -> Result<(), AllocError>
     requires at { thread.old.top.level.at < length thread.old.top.level.list.now }
     ensures top { OnOk result (frame_of thread.new.top ≡ frame_of frame.entry) }
     ensures waiting { OnOk result (callers_of thread.new.waiting.items ≡ record { frame = frame_of (passed thread.old.top); target = target } ∷ callers_of thread.old.waiting.items) }
@@ -254,14 +319,28 @@ fn descend<'p>(thread: &mut Thread<'p>, frame: Frame<'p>, target: Option<u32>) -
     }
 }
 
-fn call<'p>(alloc: Global, program: &'p Program, rooms: &[u32], thread: &mut Thread<'p>, memory: &Memory, target: Option<u32>, name: &Name, arguments: &List<TExpr>) -> Result<Did<'p>, AllocError>
+fn call<'p>(
+    alloc: Global,
+    program: &'p Program,
+    rooms: &[u32],
+    thread: &mut Thread<'p>,
+    memory: &Memory,
+    target: Option<u32>,
+    name: &Name,
+    arguments: &List<TExpr>,
+) -> Result<Did<'p>, AllocError>
     requires globals { length program.now.globals < 2 ^ 30 }
     requires rooms { length rooms.now ≡ length program.now.fns }
     requires at { thread.old.top.level.at < length thread.old.top.level.list.now }
     ensures ok { IfOk result (λ d. (pick : Bool) → Does (acted program.now pick (layer.Call target name.now arguments.now) thread.old memory.now) thread.old thread.new memory.now memory.now d) }
     ensures err { OnErr result (Same thread.old thread.new memory.now memory.now) }
 {
-    match eval_all(alloc, program.globals.as_slice(), thread.top.temps.as_slice(), arguments.as_slice())? {
+    match eval_all(
+        alloc,
+        program.globals.as_slice(),
+        thread.top.temps.as_slice(),
+        arguments.as_slice(),
+    )? {
         Ok(values) => {
             let fns = program.fns.as_slice();
             match function(fns, name) {
@@ -277,7 +356,15 @@ fn call<'p>(alloc: Global, program: &'p Program, rooms: &[u32], thread: &mut Thr
     }
 }
 
-fn spawn<'p>(alloc: Global, program: &'p Program, rooms: &[u32], thread: &mut Thread<'p>, memory: &Memory, name: &Name, e: &TExpr) -> Result<Did<'p>, AllocError>
+fn spawn<'p>(
+    alloc: Global,
+    program: &'p Program,
+    rooms: &[u32],
+    thread: &mut Thread<'p>,
+    memory: &Memory,
+    name: &Name,
+    e: &TExpr,
+) -> Result<Did<'p>, AllocError>
     requires globals { length program.now.globals < 2 ^ 30 }
     requires rooms { length rooms.now ≡ length program.now.fns }
     requires at { thread.old.top.level.at < length thread.old.top.level.list.now }
@@ -306,7 +393,15 @@ fn spawn<'p>(alloc: Global, program: &'p Program, rooms: &[u32], thread: &mut Th
 }
 
 /// One statement of a thread.
-fn statement<'p>(alloc: Global, program: &'p Program, rooms: &[u32], thread: &mut Thread<'p>, memory: &mut Memory, pick: bool, s: &'p TStmt) -> Result<Did<'p>, AllocError>
+fn statement<'p>(
+    alloc: Global,
+    program: &'p Program,
+    rooms: &[u32],
+    thread: &mut Thread<'p>,
+    memory: &mut Memory,
+    pick: bool,
+    s: &'p TStmt,
+) -> Result<Did<'p>, AllocError>
     requires globals { length program.now.globals < 2 ^ 30 }
     requires rooms { length rooms.now ≡ length program.now.fns }
     requires blocks { length memory.old < 2 ^ 31 }
@@ -319,7 +414,9 @@ fn statement<'p>(alloc: Global, program: &'p Program, rooms: &[u32], thread: &mu
         TStmt::Set(number, e) => Ok(set(program, thread, memory, *number, e)),
         TStmt::Load(number, place) => Ok(load(program, thread, memory, *number, place)),
         TStmt::Store(place, e) => store(program, thread, memory, place, e),
-        TStmt::Call(target, name, arguments) => call(alloc, program, rooms, thread, memory, *target, name, arguments),
+        TStmt::Call(target, name, arguments) => call(
+            alloc, program, rooms, thread, memory, *target, name, arguments,
+        ),
         TStmt::Malloc(number, cells) => malloc(program, thread, memory, pick, *number, *cells),
         TStmt::Free(e) => Ok(free(program, thread, memory, e)),
         TStmt::Lock(op, e) => lock(program, thread, memory, *op, e),
@@ -333,7 +430,14 @@ fn statement<'p>(alloc: Global, program: &'p Program, rooms: &[u32], thread: &mu
 }
 
 /// A step of a thread.
-pub(crate) fn advance<'p>(alloc: Global, program: &'p Program, rooms: &[u32], thread: &mut Thread<'p>, memory: &mut Memory, pick: bool) -> Result<Did<'p>, AllocError>
+pub(crate) fn advance<'p>(
+    alloc: Global,
+    program: &'p Program,
+    rooms: &[u32],
+    thread: &mut Thread<'p>,
+    memory: &mut Memory,
+    pick: bool,
+) -> Result<Did<'p>, AllocError>
     requires globals { length program.now.globals < 2 ^ 30 }
     requires rooms { length rooms.now ≡ length program.now.fns }
     requires blocks { length memory.old < 2 ^ 31 }

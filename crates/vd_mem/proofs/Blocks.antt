@@ -27,6 +27,7 @@ block_of-put size fill live heap before after o c h =
   where
     here : kept_cell fill after o ≡ c
     here = ap (λ x. unwrap_or x (Data fill)) (h o ∙ ap (λ b. cond b (Some c) (get nat_cmp before o)) (eq-eqb o o refl))
+
     other : (j : ℕ) → j ≢ o → kept_cell fill after j ≡ kept_cell fill before j
     other j ne = ap (λ x. unwrap_or x (Data fill)) (h j ∙ ap (λ b. cond b (Some c) (get nat_cmp before j)) (ne_eqb j o ne))
 
@@ -42,7 +43,7 @@ within_after size before after o c l h w q s = by (cases_eq q o)
 pub block_of-empty : (size : ℕ) (fill : Value) (heap : Bool) (m : BTreeMap ℕ Cell) → IsEmpty m → block_of size fill true heap m ≡ new_block size fill heap
 block_of-empty size fill heap m e =
     ap (λ cells. record { cells = cells; is_live = true; is_heap = heap })
-        (tabulate-constant size (kept_cell fill m) (Data fill) (λ i. ap (λ es. unwrap_or (lookup (λ k. is_eq (nat_cmp i k)) es) (Data fill)) e))
+    (tabulate-constant size (kept_cell fill m) (Data fill) (λ i. ap (λ es. unwrap_or (lookup (λ k. is_eq (nat_cmp i k)) es) (Data fill)) e))
 
 -- all cells are data exactly where all that were written are
 pub data_cells :
@@ -54,8 +55,10 @@ data_cells size fill m within ordered = same (list_all is_data (values m)) (list
     same true b f g = sym (f refl)
     same false true f g = g refl
     same false false f g = refl
+
     there : list_all is_data (values m) ≡ true → list_all is_data (tabulate size (kept_cell fill m)) ≡ true
     there h = list_all-tabulate is_data size (kept_cell fill m) (λ i l. list_all-lookup is_data (λ k. is_eq (nat_cmp i k)) (Data fill) m.entries h refl)
+
     back : list_all is_data (tabulate size (kept_cell fill m)) ≡ true → list_all is_data (values m) ≡ true
     back h = list_all_by_place is_data m.entries at
       where
@@ -63,7 +66,7 @@ data_cells size fill m within ordered = same (list_all is_data (values m)) (list
         at i k x e =
             let found : get nat_cmp m k ≡ Some x = btree_map_get_place nat_cmp_total m i k x ordered e in
             subst (λ c. is_data (unwrap_or c (Data fill)) ≡ true) found
-                (list_all_at_place is_data size (kept_cell fill m) h k (within k (subst (λ c. IsSome c) (sym found) refl)))
+            (list_all_at_place is_data size (kept_cell fill m) h k (within k (subst (λ c. IsSome c) (sym found) refl)))
 
 -- the cell of a block, by cases
 pub block_of-cell :
@@ -80,6 +83,7 @@ block_of-cell_past size fill live heap m o l =
   where
     nothing : Option Cell
     nothing = None
+
     none : (b : Bool) → cond b nothing nothing ≡ nothing
     none true = refl
     none false = refl
@@ -97,6 +101,7 @@ lock_was_written size fill true heap m o h = by (cases_lt o size)
     found : (x : Option Cell) → IsLock (Some (unwrap_or x (Data fill))) → IsSome x
     found None l = absurd l
     found (Some c) l = refl
+
     by : (o < size) ⊎ (size ≤ o) → IsSome (get nat_cmp m o)
     by (inl l) = found (get nat_cmp m o) (subst (λ c. IsLock c) (block_of-cell size fill true heap m o refl l) h)
     by (inr l) = absurd (subst (λ c. IsLock c) (block_of-cell_past size fill true heap m o l) h)

@@ -27,6 +27,7 @@ cell_at-put_here m b o c h = ap (λ x. cell_of x o) (slice_get-changed m b (λ x
     live : (x : Block) (l : Bool) → IsSome (cond l (slice_get x.cells o) None) → cond l (slice_get (slice_set x.cells o c) o) None ≡ Some c
     live x true h = set_here x.cells o c h
     live x false h = cc
+
     at : (x : Option Block) → IsSome (cell_of x o) → cell_of (option_map (λ y. block_put y o c) x) o ≡ Some c
     at None h = cc
     at (Some x) h = live x x.is_live h

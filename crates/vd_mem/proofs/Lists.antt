@@ -33,7 +33,7 @@ slice_set-tabulate (suc n) zero f g x here other =
     ap₂ (λ y ys. y ∷ ys) (sym here) (tabulate-same n (λ j. f (suc j)) (λ j. g (suc j)) (λ j l. sym (other (suc j) (λ e. omega arith))))
 slice_set-tabulate (suc n) (suc i) f g x here other =
     ap₂ (λ y ys. y ∷ ys) (sym (other 0 (λ e. omega arith)))
-        (slice_set-tabulate n i (λ j. f (suc j)) (λ j. g (suc j)) x here (λ j ne. other (suc j) (λ e. ne (omega arith))))
+    (slice_set-tabulate n i (λ j. f (suc j)) (λ j. g (suc j)) x here (λ j ne. other (suc j) (λ e. ne (omega arith))))
 
 -- a test of all elements by place
 pub list_all-tabulate : {A : Type 0} (p : A → Bool) (n : ℕ) (f : ℕ → A) → ((i : ℕ) → i < n → p (f i) ≡ true) → list_all p (tabulate n f) ≡ true

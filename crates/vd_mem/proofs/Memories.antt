@@ -17,6 +17,7 @@ within_memory m b o h = by (cases_lt b (length m))
   where
     nothing : IsSome (cell_of None o) → ⊥
     nothing x = cc
+
     by : (b < length m) ⊎ (length m ≤ b) → b < length m
     by (inl l) = l
     by (inr l) = absurd (nothing (subst (λ x. IsSome (cell_of x o)) (slice_get_past m b l) h))

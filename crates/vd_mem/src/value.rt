@@ -2,7 +2,6 @@
 ghost use Rattle.std.specs.Prelude.{◌≡◌};
 ghost use Rattle.vd_mem.specs.Memory.{is_data};
 
-
 /// A word. Undefined, a 32-bit integer, or a pointer: a block's number and an offset in cells.
 #[derive(Clone, Copy, Debug, PartialEq, Eq)]
 pub enum Value {

@@ -14,5 +14,5 @@ loop-offset-preserved c =
     let e : c.init-item.result ≡ get_or a.g.now.init c.loop-offset.offset c.init-item.result = subst (λ xs. c.init-item.result ≡ get_or xs c.loop-offset.offset c.init-item.result) same c.init-item.is in
     let fits : length a.g.now.init ≤ room a.g.now.cells = elim c.if-g-lt1.branch [ then-g-lt1 w ↦ omega arith | else-g-lt1 w ↦ omega arith ] in
     partly_more a.globals.now a.g.now a.memory.now c.loop-offset.memory c.set.new.self c.loop-offset.offset c.in_ok-block.block c.init-item.result l fits e
-        c.in_ok-block.ensures.number c.loop-offset.invariant
-        (c.in_ok-set.ensures.ok ∙ ap (λ v. put c.loop-offset.memory c.in_ok-block.block c.loop-offset.offset (Data v)) c.init_value-value.ensures)
+    c.in_ok-block.ensures.number c.loop-offset.invariant
+    (c.in_ok-set.ensures.ok ∙ ap (λ v. put c.loop-offset.memory c.in_ok-block.block c.loop-offset.offset (Data v)) c.init_value-value.ensures)

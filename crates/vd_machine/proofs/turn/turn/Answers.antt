@@ -136,4 +136,4 @@ returns-in_err-did-in-Some-clause-err c =
     let at : Some t ≡ get_or xs a.number (Some t) = subst (λ y. y ≡ get_or xs a.number y) c.in-Some.is c.index_mut.ensures.value in
     let back : turn a.program.now a.number a.pick (system_of xs m) ≡ turn a.program.now a.number a.pick (system_of a.threads.now.items m) = ap (λ ys. turn a.program.now a.number a.pick (system_of ys m)) same in
     on_err c.from_residual-in_err-did-in-Some.result (system_of (slice_set xs a.number (Some u)) c.advance.new.memory ≡ system_of a.threads.now.items m)
-        (stays xs a.number m c.advance.new.memory t u l at c.in_err-did-in-Some.ensures.err.thread c.in_err-did-in-Some.ensures.err.blocks ∙ ap (λ ys. system_of ys m) same)
+    (stays xs a.number m c.advance.new.memory t u l at c.in_err-did-in-Some.ensures.err.thread c.in_err-did-in-Some.ensures.err.blocks ∙ ap (λ ys. system_of ys m) same)

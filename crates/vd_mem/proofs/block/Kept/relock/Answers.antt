@@ -13,8 +13,8 @@ pub invariant_of-self : goal.invariant_of-self
 invariant_of-self c =
     let i = c.self.inside in
     within_after i.size i.written c.rewrite.new.written c.args.offset c.args.cell
-        (lock_is_within i.size i.fill i.live i.heap i.written c.args.offset (subst (λ x. IsLock (block_cell x c.args.offset)) (sym c.self.view_is) c.requires))
-        c.rewrite.ensures c.self.invariant
+    (lock_is_within i.size i.fill i.live i.heap i.written c.args.offset (subst (λ x. IsLock (block_cell x c.args.offset)) (sym c.self.view_is) c.requires))
+    c.rewrite.ensures c.self.invariant
 
 pub returns : goal.returns
 returns c =

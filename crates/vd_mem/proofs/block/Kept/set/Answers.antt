@@ -9,8 +9,8 @@ pub invariant_of-self-2 : goal.invariant_of-self-2
 invariant_of-self-2 c =
     let i = c.self.inside in
     within_after i.size i.written c.write.new.written c.args.offset c.args.cell
-        (subst (λ n. c.args.offset < n) (length-tabulate i.size (kept_cell i.fill i.written)) (subst (λ x. c.args.offset < length x.cells) (sym c.self.view_is) c.requires))
-        c.in_ok-write.ensures.ok c.self.invariant
+    (subst (λ n. c.args.offset < n) (length-tabulate i.size (kept_cell i.fill i.written)) (subst (λ x. c.args.offset < length x.cells) (sym c.self.view_is) c.requires))
+    c.in_ok-write.ensures.ok c.self.invariant
 
 pub returns-clause-ok : goal.returns-clause-ok
 returns-clause-ok c =
