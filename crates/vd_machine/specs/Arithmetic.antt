@@ -35,9 +35,9 @@ abbrev pub divides : Kind → ℕ → ℕ → Bool
 divides Signed a b = not (b == 0) && not ((a == 2147483648) && (b == 4294967295))
 divides Unsigned a b = not (b == 0)
 
-abbrev pub divided : Bool → ℤ → Evaluated
-divided true z = Ok (Int (wrapped z))
-divided false z = Err cause.Divide
+abbrev pub divided : Bool → Kind → ℤ → Evaluated
+divided true k z = arithmetic k z
+divided false k z = Err cause.Divide
 
 -- shifts, where the count is below 32
 abbrev pub shifted_left : Bool → ℕ → ℕ → Evaluated
@@ -59,8 +59,8 @@ abbrev pub binary : BinOp → Kind → ℕ → ℕ → Evaluated
 binary Add k a b = arithmetic k (number k a +ℤ number k b)
 binary Sub k a b = arithmetic k (number k a -ℤ number k b)
 binary Mul k a b = arithmetic k (number k a *ℤ number k b)
-binary Div k a b = divided (divides k a b) (int_div (number k a) (number k b))
-binary Rem k a b = divided (divides k a b) (int_rem (number k a) (number k b))
+binary Div k a b = divided (divides k a b) k (int_div (number k a) (number k b))
+binary Rem k a b = divided (divides k a b) k (int_rem (number k a) (number k b))
 binary And k a b = Ok (Int (bit_and a b))
 binary Or k a b = Ok (Int (bit_or a b))
 binary Xor k a b = Ok (Int (bit_xor a b))

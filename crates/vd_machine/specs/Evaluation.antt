@@ -1,13 +1,13 @@
 -- Values of expressions, in reading order. Memory is looked at by pointer tests alone.
-use Rattle.std.specs.Prelude.{ℕ, nat_le, Bool, true, false, not, cond, ◌&&◌, ◌||◌, ◌==◌, List, [], ◌∷◌, slice_get, Option, None, Some, ℤ, pos, negsuc, ◌+ℤ◌, Result, Ok, Err}
-use Rattle.std.specs.List.{position_from}
-use Rattle.std.specs.Option.{unwrap_or, is_some}
+use Rattle.std.specs.Prelude.{ℕ, nat_le, Bool, true, false, not, cond, ◌&&◌, ◌==◌, List, [], ◌∷◌, slice_get, Option, None, Some, ℤ, pos, negsuc, ◌+ℤ◌, Result, Ok, Err}
+use Rattle.std.specs.List.{position}
+use Rattle.std.specs.Option.{unwrap_or}
 use Rattle.std.specs.Str.{bytes_eq}
 use Rattle.vd_clight.specs.declared.program.GlobalDef.{GlobalDef}
 use Rattle.vd_clight.specs.declared.typed.Root.{Root}
 use Rattle.vd_clight.specs.declared.typed.Root.TheVariants as root
 use Rattle.vd_clight.specs.declared.typed.Part.TheOpen as expression
-use Rattle.vd_clight.specs.declared.typed.Part.{Part, Part-F, fold-Part}
+use Rattle.vd_clight.specs.declared.typed.Part.{Part-F}
 use Rattle.vd_clight.specs.declared.typed.TExpr.{TExpr, TExpr-F, fold-TExpr}
 use Rattle.vd_clight.specs.declared.typed.Lval.{Lval, Lval-F, fold-Lval}
 use Rattle.vd_clight.specs.declared.typed.Cond.{Cond}
@@ -53,7 +53,7 @@ start_of None = Undef
 start_of (Some b) = Ptr b 0
 
 abbrev pub global : List GlobalDef → List ℕ → Value
-global globals name = start_of (position_from (λ g. bytes_eq g.name name) 0 globals)
+global globals name = start_of (position (λ g. bytes_eq g.name name) globals)
 
 -- the pointer that a path begins with
 abbrev pub root_value : List GlobalDef → Temps → Root → Value
@@ -71,6 +71,7 @@ moved b z [] = placed b z
 moved b z (Ok d ∷ parts) = moved b (z +ℤ d) parts
 moved b z (Err c ∷ parts) = Err c
 
+-- how far a part of a path moves
 abbrev pub part_layer : Part-F (Result ℤ Cause) Evaluated Evaluated → Result ℤ Cause
 part_layer (expression.Offset n) = Ok (pos n)
 part_layer (expression.Index k e) = on_ok e (λ v. on_int v (λ a. Ok (number k a)))
@@ -96,25 +97,27 @@ eval globals t = fold-TExpr (Result ℤ Cause) Evaluated Evaluated part_layer (e
 unfoldable pub address : List GlobalDef → Temps → Lval → Evaluated
 address globals t = fold-Lval (Result ℤ Cause) Evaluated Evaluated part_layer (expression_layer t) (place_layer globals t)
 
--- how far a part of a path moves
-unfoldable pub part_moves : List GlobalDef → Temps → Part → Result ℤ Cause
-part_moves globals t = fold-Part (Result ℤ Cause) Evaluated Evaluated part_layer (expression_layer t) (place_layer globals t)
-
 -- the values of arguments
 abbrev pub eval_all : List GlobalDef → Temps → List TExpr → Result (List Value) Cause
 eval_all globals t [] = Ok []
 eval_all globals t (e ∷ es) = on_ok (eval globals t e) (λ v. on_ok (eval_all globals t es) (λ vs. Ok (v ∷ vs)))
 
-abbrev pub is_undef : Value → Bool
-is_undef Undef = true
-is_undef (Int a) = false
-is_undef (Ptr b o) = false
+-- a pointer test looks at a value that is not undef
+abbrev pub on_defined : {A : Type 0} → Value → Result A Cause → Result A Cause
+on_defined Undef r = Err cause.Undef
+on_defined (Int a) r = r
+on_defined (Ptr b o) r = r
+
+-- the pointer has a live cell
+abbrev pub on_live : {A : Type 0} → Option Cell → Result A Cause → Result A Cause
+on_live None r = Err cause.Pointer
+on_live (Some c) r = r
 
 -- of the values of a pointer test an integer is 0, and a pointer has a live cell
-abbrev pub is_tested : List Block → Value → Bool
-is_tested m Undef = false
-is_tested m (Int a) = a == 0
-is_tested m (Ptr b o) = is_some (cell_at m b o)
+abbrev pub on_pointer : {A : Type 0} → List Block → Value → Result A Cause → Result A Cause
+on_pointer m Undef r = Err cause.Undef
+on_pointer m (Int a) r = cond (a == 0) r (Err cause.Pointer)
+on_pointer m (Ptr b o) r = on_live (cell_at m b o) r
 
 abbrev pub same_value : Value → Value → Bool
 same_value Undef Undef = true
@@ -129,8 +132,7 @@ same_answer false same = not same
 
 abbrev pub pointer_test : List Block → Bool → Value → Value → Result Bool Cause
 pointer_test m flag v u =
-    cond (is_undef v || is_undef u) (Err cause.Undef)
-    (cond (is_tested m v && is_tested m u) (Ok (same_answer flag (same_value v u))) (Err cause.Pointer))
+    on_defined v (on_defined u (on_pointer m v (on_pointer m u (Ok (same_answer flag (same_value v u))))))
 
 -- a condition
 abbrev pub test : List GlobalDef → Temps → List Block → Cond → Result Bool Cause

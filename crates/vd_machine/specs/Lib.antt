@@ -1,14 +1,9 @@
 pub mod Arithmetic
 pub mod Evaluation
-pub mod Frames
-pub mod Inside
-pub mod Kept
 pub mod Machine
 pub mod Race
-pub mod Results
 pub mod Run
 pub mod Safe
 pub mod Start
 pub mod Step
 pub mod Thread
-pub mod Turns

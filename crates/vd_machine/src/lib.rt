@@ -3,13 +3,5 @@
 #![tactic(auto)]
 
 mod answer;
-mod effect;
-mod evaluate;
-mod frame;
-mod machine;
-mod statement;
-mod turn;
-mod word;
 
 pub use answer::{Cause, End, Outcome, Spot, Stepped, Turn};
-pub use machine::Machine;
