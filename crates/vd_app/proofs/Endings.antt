@@ -3,10 +3,10 @@ use Rattle.std.proofs.Common.{◌≡◌, ◌⊎◌, inl, inr, ℕ, true, false, 
 use Rattle.vd_base.specs.Cause.{Rose}
 use Rattle.vd_base.specs.declared.sink.SinkFault.{SinkFault}
 use Rattle.vd_outline.specs.Lines.{joined}
-use Rattle.vd_check.specs.declared.store.Linkset.{Linkset}
-use Rattle.vd_check.specs.declared.store.Outcome.{Outcome}
-use Rattle.vd_check.specs.declared.store.Outcome.TheVariants as outcome
-use Rattle.vd_check.specs.declared.store.Report.{Report}
+use Rattle.vd_store.specs.declared.report.Linkset.{Linkset}
+use Rattle.vd_store.specs.declared.report.Outcome.{Outcome}
+use Rattle.vd_store.specs.declared.report.Outcome.TheVariants as outcome
+use Rattle.vd_store.specs.declared.report.Report.{Report}
 use Rattle.vd_app.specs.Answer.{Answer, answer_of, written_text}
 use Rattle.vd_app.specs.Call.{IsAnswered, Means, TellsLine, TellsEnding, error_line}
 use Rattle.vd_app.specs.Seen.{ShelfSeen, SinkSeen, Adds, AddsPrefix}

@@ -1,12 +1,12 @@
 -- The outcome of the snapshot that texts make.
 use Rattle.std.proofs.Common.{◌≡◌, ◌↔◌, ℕ, true, List, [], ◌∷◌, Option, Some, None, Result, Ok, Err, IfOk, MatchOption, refl, sym, subst, arith}
 use Rattle.std.specs.declared.alloc.AllocError.{AllocError}
-use Rattle.vd_check.specs.declared.store.Outcome.{Outcome}
-use Rattle.vd_check.specs.declared.store.Outcome.TheVariants as outcome
+use Rattle.vd_store.specs.declared.report.Outcome.{Outcome}
+use Rattle.vd_store.specs.declared.report.Outcome.TheVariants as outcome
 use Rattle.vd_check.specs.Form as form
-use Rattle.vd_check.specs.Safety.{Promises}
+use Rattle.vd_check.specs.Safety.{DefineSafeProgram, Promises}
 use Rattle.vd_check.specs.Scratch.{Scratches}
-use Rattle.vd_app.specs.Answer.{AreCheckable, DefinesSafeProgram, Checks, answer_of}
+use Rattle.vd_app.specs.Answer.{AreCheckable, Checks, answer_of}
 use Rattle.vd_app.specs.Submission.{Entries, Submits}
 
 pub not_two : (texts : List (List ℕ)) → ((a b : List ℕ) → texts ≡ a ∷ (b ∷ []) → ⊥) → AreCheckable texts → ⊥
@@ -19,7 +19,7 @@ pub no_snapshot : (texts : List (List ℕ)) (first second : List ℕ) → texts 
 no_snapshot texts first second e none h = none h.snapshot (subst (λ ts. Submits ts h.snapshot) e h.submits)
 
 -- an answer that all went well is that of an accepted outcome
-safe_of : (snapshot : Entries) (link : List ℕ) (o : Outcome) → Promises snapshot o → (answer_of link o).success ≡ true → DefinesSafeProgram snapshot
+safe_of : (snapshot : Entries) (link : List ℕ) (o : Outcome) → Promises snapshot o → (answer_of link o).success ≡ true → DefineSafeProgram snapshot
 safe_of snapshot link (outcome.Accepted set report) promise h = promise
 safe_of snapshot link (outcome.Rejected report) promise h = absurd (cc)
 safe_of snapshot link outcome.NoLink promise h = absurd (cc)

@@ -1,11 +1,10 @@
 -- What a command answers of the texts that its files hold.
 use Rattle.std.specs.Prelude.{◌≡◌, Bool, true, false, List, [], ◌∷◌, ◌++◌, codes, length}
 use Rattle.vd_outline.specs.Lines.{joined}
-use Rattle.vd_check.specs.declared.store.Outcome.{Outcome}
-use Rattle.vd_check.specs.declared.store.Outcome.TheVariants as outcome
+use Rattle.vd_store.specs.declared.report.Outcome.{Outcome}
+use Rattle.vd_store.specs.declared.report.Outcome.TheVariants as outcome
 use Rattle.vd_check.specs.Form as form
-use Rattle.vd_check.specs.declared.form.Pair.{Pair}
-use Rattle.vd_check.specs.Safety.{HasSafeProgram}
+use Rattle.vd_check.specs.Safety.{DefineSafeProgram}
 use Rattle.vd_check.specs.Scratch.{Scratches}
 use Rattle.vd_app.specs.Command.{Bytes, Command, Check, Unbuilt}
 use Rattle.vd_app.specs.Submission.{Entries, Submits}
@@ -32,11 +31,6 @@ pub record AreCheckable (texts : List Bytes) : Type 0 where
   pub submits : Submits texts snapshot
   pub has_form : form.HasForm snapshot
 
--- The texts are a unit and a link that define a program, which is whole. Under every schedule it is never stuck and never
--- races, and what main returns satisfies its postcondition.
-abbrev pub DefinesSafeProgram : Entries → Type 0
-DefinesSafeProgram snapshot = (p : Pair) × form.AreTexts snapshot p × HasSafeProgram p.unit
-
 -- what `check` answers of the texts: the outcome of the snapshot that they make
 pub record Checks (link : Bytes) (texts : List Bytes) (answer : Answer) : Type 0 where
   pub snapshot : Entries
@@ -44,7 +38,9 @@ pub record Checks (link : Bytes) (texts : List Bytes) (answer : Answer) : Type 0
   pub outcome : Outcome
   pub scratches : Scratches snapshot link outcome
   pub is : answer ≡ answer_of link outcome
-  pub safe : answer.success ≡ true → DefinesSafeProgram snapshot
+  -- the texts are one unit and one link, whose program is whole. Under every schedule it is never stuck and never races, and
+  -- what main returns satisfies its postcondition
+  pub safe : answer.success ≡ true → DefineSafeProgram snapshot
 
 -- The three that follow have a case for each command.
 

@@ -6,6 +6,7 @@ use Rattle.vd_base.specs.Name.{is_name}
 use Rattle.vd_app.specs.declared.command.Words.{Words}
 use Rattle.vd_app.specs.declared.command.Words.TheVariants as words
 
+-- a word, a file, or a text
 abbrev pub Bytes : Type 0
 Bytes = List ℕ
 
@@ -20,6 +21,7 @@ pub data Command : Type 0 where
   -- a command that is not built yet
   Unbuilt : Command
 
+-- a word that is not empty
 abbrev pub is_filled : Bytes → Bool
 is_filled word = nat_le 1 (length word)
 

@@ -8,6 +8,7 @@ use Rattle.vd_outline.specs.declared.outline.TextKind.{TextKind}
 use Rattle.vd_outline.specs.Outline.{HasHead}
 use Rattle.vd_check.specs.Form.{Entry}
 
+-- texts with their names and versions, in the order of the names
 abbrev pub Entries : Type 0
 Entries = List Entry
 

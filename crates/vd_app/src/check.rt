@@ -12,7 +12,8 @@ use crate::output::{put_line, put_lines};
 use crate::submission::submitted;
 use std::alloc::{AllocError, Global};
 use vd_base::{List, Name, Shelf, Sink, SinkFault, Text};
-use vd_check::{Outcome, try_scratch};
+use vd_check::try_scratch;
+use vd_store::Outcome;
 
 fn finish<'a>(written: Result<(), SinkFault>, success: bool) -> Ending<'a>
     ensures { (text : Bytes) (seen : SinkSeen) → Writes text seen written → Finishes success text seen result }

@@ -5,8 +5,8 @@ ghost use Rattle.vd_app.specs.Submission.{Entries, put, Submits};
 use std::alloc::{AllocError, Global};
 use std::cmp::Ordering;
 use vd_base::{List, Name, Text};
-use vd_check::Snapshot;
 use vd_outline::head_of;
+use vd_store::Snapshot;
 
 /// Puts a text upon another.
 fn in_order(

@@ -3,8 +3,10 @@
 
 mod calls;
 mod ctype;
+mod layout;
 mod list;
 mod name;
+mod numbers;
 mod shelf;
 mod sink;
 #[cfg(test)]
@@ -12,6 +14,7 @@ mod tests;
 mod text;
 
 pub use ctype::{CType, Field, copy_fields};
+pub use layout::{LayoutFault, Slot, Structs, are_fields, layout_laws};
 pub use list::List;
 pub use name::{Name, NameFault, is_name, is_word_byte};
 pub use shelf::{FileShelf, MemShelf, Shelf, ShelfFault};

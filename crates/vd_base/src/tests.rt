@@ -1,9 +1,10 @@
 // Happy paths of the calls that take memory, and the adapters to the outside.
 use crate::{
-    CType, Field, FileShelf, List, MemShelf, MemSink, Name, OutSink, Shelf, ShelfFault, Sink,
-    SinkFault, Text, copy_fields,
+    CType, Field, FileShelf, LayoutFault, List, MemShelf, MemSink, Name, OutSink, Shelf,
+    ShelfFault, Sink, SinkFault, Structs, Text, are_fields, copy_fields,
 };
 use sqlite_items::Boxed;
+use std::alloc::{AllocError, Global};
 use std::io::{ErrorKind, Write};
 use std::test::Fail;
 use std::{fs, io};
@@ -114,5 +115,134 @@ fn streams_are_written_until_they_fail(rt: HostRuntime) -> Result<(), Fail> {
     let mut broken = OutSink::new(Breaking { left: 3 });
     assert_eq!(rt; broken.put_all(b"ab"), Ok(()));
     assert_eq!(rt; broken.put_all(b"cd"), Err(SinkFault::Failed));
+    Ok(())
+}
+
+// A type by a word, in arrays of these lengths, the inner one first; 0 for none.
+fn typ(alloc: Global, word: &str, lengths: [u32; 2]) -> Result<CType, AllocError> {
+    let mut typ = word_type(alloc, word)?;
+    for length in lengths {
+        if length > 0 {
+            typ = CType::Array(Boxed::new(alloc, typ)?, length);
+        }
+    }
+    Ok(typ)
+}
+
+// A pointer is to a struct that is nowhere.
+fn word_type(alloc: Global, word: &str) -> Result<CType, AllocError> {
+    match word {
+        "void" => Ok(CType::Void),
+        "int" => Ok(CType::Int),
+        "lock" => Ok(CType::Lock),
+        "pointer" => Ok(CType::Pointer(Boxed::new(alloc, CType::Void)?)),
+        _ => Ok(CType::Struct(word_name(alloc, word)?)),
+    }
+}
+
+fn word_name(alloc: Global, word: &str) -> Result<Name, AllocError> {
+    Name::new(alloc, word.as_bytes()).map_err(|_| AllocError)
+}
+
+// Adds a struct of two fields, the second an int. None where the first is void.
+fn add(
+    alloc: Global,
+    structs: &mut Structs,
+    names: [&str; 3],
+    word: &str,
+    lengths: [u32; 2],
+) -> Result<Option<LayoutFault>, AllocError> {
+    let [of, first, second] = names;
+    let mut fields = List::new(alloc);
+    fields.push(Field {
+        name: word_name(alloc, first)?,
+        typ: typ(alloc, word, lengths)?,
+    })?;
+    fields.push(Field {
+        name: word_name(alloc, second)?,
+        typ: CType::Int,
+    })?;
+    let of = word_name(alloc, of)?;
+    if !are_fields(fields.as_slice()) {
+        return Ok(None);
+    }
+    Ok(structs.add(of, fields).err())
+}
+
+// A list's node, and a struct that begins with three of them.
+fn two_structs(alloc: Global) -> Result<Structs, AllocError> {
+    let mut structs = Structs::new(alloc);
+    add(alloc, &mut structs, ["n", "a", "b"], "pointer", [0, 0])?;
+    add(alloc, &mut structs, ["m", "x", "y"], "n", [3, 0])?;
+    Ok(structs)
+}
+
+#[test]
+fn types_have_sizes(rt: HostRuntime) -> Result<(), Fail> {
+    let structs = two_structs(rt.alloc())?;
+    for (word, lengths, size) in [
+        ("void", [0, 0], None),
+        ("int", [0, 0], Some(1)),
+        ("pointer", [0, 0], Some(1)),
+        ("q", [0, 0], None),
+        ("n", [0, 0], Some(2)),
+        ("m", [0, 0], Some(7)),
+        ("m", [16, 0], Some(112)),
+        ("void", [2, 0], None),
+        ("lock", [1024, 1024], Some(1048576)),
+        ("int", [1025, 1024], None),
+        ("m", [u32::MAX, u32::MAX], None),
+    ] {
+        let typ = typ(rt.alloc(), word, lengths)?;
+        assert_eq!(rt; structs.size(&typ), size);
+    }
+    Ok(())
+}
+
+#[test]
+fn fields_have_slots(rt: HostRuntime) -> Result<(), Fail> {
+    let structs = two_structs(rt.alloc())?;
+    for (of, field, place) in [
+        ("n", "a", Some((0, 0))),
+        ("n", "b", Some((1, 1))),
+        ("m", "x", Some((0, 0))),
+        ("m", "y", Some((6, 1))),
+        ("m", "a", None),
+        ("q", "a", None),
+    ] {
+        let of = word_name(rt.alloc(), of)?;
+        let slot = structs.field(&of, &word_name(rt.alloc(), field)?);
+        assert_eq!(rt; slot.map(|slot| (slot.offset, slot.index)), place);
+    }
+    let m = word_name(rt.alloc(), "m")?;
+    assert!(rt; matches!(structs.typ(&m, 1), Some(CType::Int)));
+    assert!(rt; structs.typ(&m, 2).is_none());
+    Ok(())
+}
+
+fn is_refused(answer: Option<LayoutFault>, kind: &str, of: &str) -> bool {
+    match answer {
+        Some(LayoutFault::Twice(name)) => kind == "twice" && name.as_bytes() == of.as_bytes(),
+        Some(LayoutFault::Unknown(name)) => kind == "unknown" && name.as_bytes() == of.as_bytes(),
+        Some(LayoutFault::Large(name)) => kind == "large" && name.as_bytes() == of.as_bytes(),
+        Some(LayoutFault::Memory(_)) => false,
+        None => kind == "added",
+    }
+}
+
+#[test]
+fn structs_are_refused(rt: HostRuntime) -> Result<(), Fail> {
+    let mut structs = two_structs(rt.alloc())?;
+    for (names, word, lengths, kind, told) in [
+        (["n", "a", "b"], "q", [0, 0], "twice", "n"),
+        (["p", "a", "a"], "q", [0, 0], "twice", "a"),
+        (["p", "a", "b"], "p", [0, 0], "unknown", "p"),
+        (["p", "a", "b"], "q", [1048577, 0], "unknown", "q"),
+        (["p", "a", "b"], "int", [1024, 1024], "large", "p"),
+        (["p", "a", "b"], "int", [1048575, 0], "added", "p"),
+    ] {
+        let answer = add(rt.alloc(), &mut structs, names, word, lengths)?;
+        assert!(rt; is_refused(answer, kind, told));
+    }
     Ok(())
 }

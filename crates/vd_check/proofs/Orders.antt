@@ -1,8 +1,10 @@
 -- Two texts in either order.
-use Rattle.std.proofs.Common.{◌≡◌, inl, inr, ⊎_elim, ◌≤◌, ◌<◌, List, [], ◌∷◌, length, get_or, Option, None, Some, Result, Ok, Err, IfOk, MatchOption, sym, subst, arith}
+use Rattle.std.proofs.Common.{◌≡◌, ◌⊎◌, inl, inr, ⊎_elim, ◌≤◌, ◌<◌, List, [], ◌∷◌, length, get_or, Option, None, Some, Result, Ok, Err, IfOk, sym, subst, arith}
+use Rattle.vd_outline.specs.declared.outline.TextKind.TheVariants.{Unit as UnitText, Link as LinkText}
+use Rattle.vd_outline.specs.Laws.{OneOutline}
 use Rattle.vd_form.specs.Sections.{Finds}
 use Rattle.vd_check.specs.declared.form.Pair.{Pair}
-use Rattle.vd_check.specs.Form.{Entry, ArePair, AreTexts, HasForm}
+use Rattle.vd_check.specs.Form.{Entry, ArePair, AreTexts}
 
 pub two_entries : (xs : List Entry) (a b : Entry) → 2 ≤ length xs → length xs < 3 → a ≡ get_or xs 0 a → b ≡ get_or xs 1 b → xs ≡ a ∷ b ∷ []
 two_entries [] a b low high first second = absurd (omega arith)
@@ -10,20 +12,36 @@ two_entries (x ∷ []) a b low high first second = absurd (omega arith)
 two_entries (x ∷ y ∷ []) a b low high first second = cc
 two_entries (x ∷ y ∷ z ∷ zs) a b low high first second = absurd (omega arith)
 
+-- no text is both a unit and a link
+wrong_way : OneOutline → (e f : Entry) (p q : Pair) → ArePair e f p → ArePair f e q → ⊥
+wrong_way one e f p q h g =
+    let same : h.unit.0 ≡ g.link.0 = one e.2 h.unit.0 g.link.0 h.unit.1 g.link.1 in
+    let unit : h.unit.0.kind ≡ UnitText = h.unit.2.kind in
+    let link : g.link.0.kind ≡ LinkText = g.link.2.kind in
+    cc
+
 module _ (texts : List Entry) (e f : Entry) (same : texts ≡ e ∷ f ∷ []) where
-  pub first_order : (p : Pair) → Finds (ArePair e f) (Some p) → AreTexts texts p
-  first_order p h = record { unit = e; link = f; pair = h.0; both = inl same }
+  -- the order in which the texts are such a pair
+  in_order : (p : Pair) → AreTexts texts p → ArePair e f p ⊎ ArePair f e p
+  in_order p h = ⊎_elim
+      (λ q. let at : e ≡ h.unit = cc in let at' : f ≡ h.link = cc in inl (subst (λ (x : Entry). ArePair x f p) (sym at) (subst (λ (x : Entry). ArePair h.unit x p) (sym at') h.pair)))
+      (λ q. let at : e ≡ h.link = cc in let at' : f ≡ h.unit = cc in inr (subst (λ (x : Entry). ArePair x e p) (sym at') (subst (λ (x : Entry). ArePair h.unit x p) (sym at) h.pair)))
+      h.both
 
-  no_order : Finds (ArePair e f) None → Finds (ArePair f e) None → HasForm texts → ⊥
-  no_order none none' form = ⊎_elim
-      (λ q. let at : e ≡ form.1.unit = cc in let at' : f ≡ form.1.link = cc in none form.0 (subst (λ (x : Entry). ArePair x f form.0) (sym at) (subst (λ (x : Entry). ArePair form.1.unit x form.0) (sym at') form.1.pair)))
-      (λ q. let at : e ≡ form.1.link = cc in let at' : f ≡ form.1.unit = cc in none' form.0 (subst (λ (x : Entry). ArePair x e form.0) (sym at') (subst (λ (x : Entry). ArePair form.1.unit x form.0) (sym at) form.1.pair)))
-      form.1.both
+  module _ (one : OneOutline) where
+    pub first_order : (p : Pair) → Finds (ArePair e f) (Some p) → Finds (AreTexts texts) (Some p)
+    first_order p h = (
+      record { unit = e; link = f; pair = h.0; both = inl same },
+      λ q g. ⊎_elim (h.1 q) (λ back. absurd (wrong_way one e f p q h.0 back)) (in_order q g),
+    )
 
-  second_order : Finds (ArePair e f) None → (found : Option Pair) → Finds (ArePair f e) found → MatchOption found (HasForm texts → ⊥) (AreTexts texts)
-  second_order none None h = no_order none h
-  second_order none (Some p) h = record { unit = f; link = e; pair = h.0; both = inr same }
+    second_order : Finds (ArePair e f) None → (found : Option Pair) → Finds (ArePair f e) found → Finds (AreTexts texts) found
+    second_order none None h = λ q g. ⊎_elim (none q) (h q) (in_order q g)
+    second_order none (Some p) h = (
+      record { unit = f; link = e; pair = h.0; both = inr same },
+      λ q g. ⊎_elim (λ front. absurd (none q front)) (h.1 q) (in_order q g),
+    )
 
-  pub either_order : {E : Type 0} (r : Result (Option Pair) E) → Finds (ArePair e f) None → IfOk r (Finds (ArePair f e)) → IfOk r (λ found. MatchOption found (HasForm texts → ⊥) (AreTexts texts))
-  either_order (Ok found) none h = second_order none found h
-  either_order (Err x) none h = tt
+    pub either_order : {E : Type 0} (r : Result (Option Pair) E) → Finds (ArePair e f) None → IfOk r (Finds (ArePair f e)) → IfOk r (Finds (AreTexts texts))
+    either_order (Ok found) none h = second_order none found h
+    either_order (Err x) none h = tt

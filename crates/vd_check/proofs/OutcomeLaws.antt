@@ -3,9 +3,9 @@ use Rattle.std.proofs.Common.{◌≡◌, List, refl, ap, sym, ◌∙◌}
 use Rattle.vd_check.specs.declared.form.Pair.{Pair}
 use Rattle.vd_check.specs.declared.form.UnitParts.{UnitParts}
 use Rattle.vd_check.specs.declared.report.Finding.{Finding}
-use Rattle.vd_check.specs.declared.store.Linkset.{Linkset}
-use Rattle.vd_check.specs.declared.store.Outcome.TheVariants as outcome
-use Rattle.vd_check.specs.declared.store.Report.{Report}
+use Rattle.vd_store.specs.declared.report.Linkset.{Linkset}
+use Rattle.vd_store.specs.declared.report.Outcome.TheVariants as outcome
+use Rattle.vd_store.specs.declared.report.Report.{Report}
 use Rattle.vd_check.specs.Laws.{OneOutcome}
 use Rattle.vd_check.specs.Report.{report_lines}
 use Rattle.vd_check.specs.Scratch.{AreFindings, Reports, findings_of, failure_of, linkset_of}

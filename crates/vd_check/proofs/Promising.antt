@@ -1,14 +1,16 @@
 -- What an accepted outcome promises.
 use Rattle.std.proofs.Common.{◌≡◌, ℕ, Bool, true, false, ◌&&◌, List, [], ◌∷◌, Option, Some, refl, sym, ◌∙◌, ap, subst}
+use Rattle.vd_form.specs.Sections.{Finds}
 use Rattle.vd_check.specs.declared.form.Pair.{Pair}
 use Rattle.vd_check.specs.declared.form.UnitParts.{UnitParts}
 use Rattle.vd_check.specs.declared.report.Finding.{Finding}
-use Rattle.vd_check.specs.declared.store.Outcome.{Outcome}
-use Rattle.vd_check.specs.declared.store.Outcome.TheVariants as outcome
-use Rattle.vd_check.specs.declared.store.Verdict.{Verdict}
-use Rattle.vd_check.specs.declared.store.Verdict.TheVariants.{Accepted, Refused}
+use Rattle.vd_store.specs.declared.report.Outcome.{Outcome}
+use Rattle.vd_store.specs.declared.report.Outcome.TheVariants as outcome
+use Rattle.vd_store.specs.declared.work.Verdict.{Verdict}
+use Rattle.vd_store.specs.declared.work.Verdict.TheVariants.{Accepted, Refused}
 use Rattle.vd_check.specs.Form.{Entry, AreTexts}
-use Rattle.vd_check.specs.Report.{are_accepted, is_accepted}
+use Rattle.vd_check.specs.Report.{are_accepted}
+use Rattle.vd_store.specs.Verdicts.{is_accepted}
 use Rattle.vd_check.specs.Script.{HasVerdict}
 use Rattle.vd_check.specs.Scratch.{findings_of, AreFindings, Gives}
 use Rattle.vd_check.specs.Safety.{IsSafeFor, HasSafeProgram, Promises}
@@ -27,7 +29,8 @@ safe_unit texts p findings are found all =
       safe = accepted_is_safe p.unit found.body found.judged (sym (ap are_accepted found.all) ∙ all);
     }
 
-pub promises : (texts : List Entry) (asked : List ℕ) (p : Pair) (o : Outcome) → AreTexts texts p → Gives asked p o → Promises texts o
-promises texts asked p (outcome.Accepted set r) are gives = (p, are, safe_unit texts p gives.0 are gives.2.found gives.3)
-promises texts asked p (outcome.Rejected r) are gives = tt
-promises texts asked p outcome.NoLink are gives = tt
+pub promises : (texts : List Entry) (asked : List ℕ) (p : Pair) (o : Outcome) → Finds (AreTexts texts) (Some p) → Gives asked p o → Promises texts o
+promises texts asked p (outcome.Accepted set r) one gives =
+    record { pair = p; texts_are = one.0; no_other = one.1; safe = safe_unit texts p gives.0 one.0 gives.2.found gives.3 }
+promises texts asked p (outcome.Rejected r) one gives = tt
+promises texts asked p outcome.NoLink one gives = tt

@@ -2,8 +2,8 @@
 use Rattle.std.proofs.Common.{◌≡◌, ℕ, ◌+◌, List, [], ◌∷◌, length, None, Some, slice_get, sym, subst}
 use Rattle.vd_logic.specs.declared.assertion.Assertion.{Assertion}
 use Rattle.vd_logic.specs.declared.step.Step.{Step}
-use Rattle.vd_check.specs.declared.store.Verdict.{Verdict}
-use Rattle.vd_check.specs.declared.store.Verdict.TheVariants.{Accepted, Refused as RefusedAt}
+use Rattle.vd_store.specs.declared.work.Verdict.{Verdict}
+use Rattle.vd_store.specs.declared.work.Verdict.TheVariants.{Accepted, Refused as RefusedAt}
 use Rattle.vd_check.specs.Script.{Node, Children, Refused, IsGood, ends, goes, Fails, lacks, refused, extra, later, HasVerdictFrom, apply, rule_of, shown}
 
 module _ (post : Assertion) (last : ℕ) (n : Node) (s : Step) (ss steps : List Step) (cut : steps ≡ s ∷ ss) where

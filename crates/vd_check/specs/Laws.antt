@@ -4,8 +4,8 @@ use Rattle.vd_clight.specs.declared.typed.TypedFn.{TypedFn}
 use Rattle.vd_logic.specs.declared.assertion.Assertion.{Assertion}
 use Rattle.vd_logic.specs.declared.step.Step.{Step}
 use Rattle.vd_check.specs.declared.form.Pair.{Pair}
-use Rattle.vd_check.specs.declared.store.Outcome.{Outcome}
-use Rattle.vd_check.specs.declared.store.Verdict.{Verdict}
+use Rattle.vd_store.specs.declared.report.Outcome.{Outcome}
+use Rattle.vd_store.specs.declared.work.Verdict.{Verdict}
 use Rattle.vd_check.specs.Script.{HasVerdict}
 use Rattle.vd_check.specs.Scratch.{Gives}
 

@@ -1,13 +1,14 @@
 -- The lines of a report.
-use Rattle.std.specs.Prelude.{ℕ, Bool, true, false, List, [], ◌∷◌, ◌++◌, codes, Option, None, Some, map, flat_map, decimal}
+use Rattle.std.specs.Prelude.{ℕ, Bool, List, [], ◌∷◌, ◌++◌, codes, Option, None, Some, map, flat_map, decimal}
 use Rattle.std.specs.List.{list_all}
 use Rattle.vd_check.specs.declared.report.Finding.{Finding}
 use Rattle.vd_check.specs.declared.report.Failure.{Failure}
-use Rattle.vd_check.specs.declared.store.Verdict.{Verdict}
-use Rattle.vd_check.specs.declared.store.Verdict.TheVariants.{Accepted, Refused}
-use Rattle.vd_check.specs.declared.store.WorkKind.{WorkKind}
-use Rattle.vd_check.specs.declared.store.WorkKind.TheVariants.{Header, Body, Sub, Init}
-use Rattle.vd_check.specs.declared.store.WorkName.{WorkName}
+use Rattle.vd_store.specs.declared.work.Verdict.{Verdict}
+use Rattle.vd_store.specs.declared.work.Verdict.TheVariants.{Accepted, Refused}
+use Rattle.vd_store.specs.declared.work.WorkKind.{WorkKind}
+use Rattle.vd_store.specs.declared.work.WorkKind.TheVariants.{Header, Body, Sub, Init}
+use Rattle.vd_store.specs.declared.work.WorkName.{WorkName}
+use Rattle.vd_store.specs.Verdicts.{is_accepted}
 
 abbrev pub Bytes : Type 0
 Bytes = List ℕ
@@ -37,10 +38,6 @@ verdict_text (Refused at rule condition) = codes " refused" ++ flat_map (λ n. s
 
 abbrev pub finding_text : Finding → Bytes
 finding_text f = work_text f.work ++ verdict_text f.verdict
-
-abbrev pub is_accepted : Verdict → Bool
-is_accepted Accepted = true
-is_accepted (Refused at rule condition) = false
 
 abbrev pub are_accepted : List Finding → Bool
 are_accepted = list_all (λ f. is_accepted f.verdict)

@@ -9,9 +9,9 @@ use Rattle.vd_logic.specs.declared.step.Step.{Step}
 use Rattle.vd_machine.specs.Safe.{IsSafe}
 use Rattle.vd_check.specs.declared.form.Pair.{Pair}
 use Rattle.vd_check.specs.declared.form.UnitParts.{UnitParts}
-use Rattle.vd_check.specs.declared.store.Outcome.{Outcome}
-use Rattle.vd_check.specs.declared.store.Outcome.TheVariants as outcome
-use Rattle.vd_check.specs.declared.store.Verdict.TheVariants.{Accepted}
+use Rattle.vd_store.specs.declared.report.Outcome.{Outcome}
+use Rattle.vd_store.specs.declared.report.Outcome.TheVariants as outcome
+use Rattle.vd_store.specs.declared.work.Verdict.TheVariants.{Accepted}
 use Rattle.vd_check.specs.Form.{Entry, AreTexts}
 use Rattle.vd_check.specs.Meaning.{Satisfies}
 use Rattle.vd_check.specs.Script.{HasVerdict}
@@ -38,8 +38,15 @@ pub record HasSafeProgram (u : UnitParts) : Type 0 where
   pub whole : is_whole (program_of u.typed) ≡ true
   pub safe : IsSafeFor u.spec.post u.typed
 
+-- the texts are one unit and one link, and the program that they define is whole and safe
+pub record DefineSafeProgram (texts : List Entry) : Type 0 where
+  pub pair : Pair
+  pub texts_are : AreTexts texts pair
+  pub no_other : (other : Pair) → AreTexts texts other → other ≡ pair
+  pub safe : HasSafeProgram pair.unit
+
 -- what an outcome promises of the program that the texts define
 abbrev pub Promises : List Entry → Outcome → Type 0
-Promises texts (outcome.Accepted set report) = (p : Pair) × AreTexts texts p × HasSafeProgram p.unit
+Promises texts (outcome.Accepted set report) = DefineSafeProgram texts
 Promises texts (outcome.Rejected report) = Unit {0}
 Promises texts outcome.NoLink = Unit {0}

@@ -4,12 +4,12 @@ use Rattle.vd_check.specs.declared.form.Pair.{Pair}
 use Rattle.vd_check.specs.declared.form.UnitParts.{UnitParts}
 use Rattle.vd_check.specs.declared.report.Finding.{Finding}
 use Rattle.vd_check.specs.declared.report.Failure.{Failure}
-use Rattle.vd_check.specs.declared.store.Outcome.{Outcome}
-use Rattle.vd_check.specs.declared.store.Outcome.TheVariants as outcome
-use Rattle.vd_check.specs.declared.store.Report.{Report}
-use Rattle.vd_check.specs.declared.store.Verdict.{Verdict}
-use Rattle.vd_check.specs.declared.store.Verdict.TheVariants.{Accepted}
-use Rattle.vd_check.specs.declared.store.WorkKind.TheVariants.{Header, Body}
+use Rattle.vd_store.specs.declared.report.Outcome.{Outcome}
+use Rattle.vd_store.specs.declared.report.Outcome.TheVariants as outcome
+use Rattle.vd_store.specs.declared.report.Report.{Report}
+use Rattle.vd_store.specs.declared.work.Verdict.{Verdict}
+use Rattle.vd_store.specs.declared.work.Verdict.TheVariants.{Accepted}
+use Rattle.vd_store.specs.declared.work.WorkKind.TheVariants.{Header, Body}
 use Rattle.vd_check.specs.Script.{HasVerdict}
 use Rattle.vd_check.specs.Report.{are_accepted, report_lines}
 use Rattle.vd_check.specs.Form.{Entry, AreTexts}

@@ -15,8 +15,8 @@ use Rattle.vd_logic.specs.declared.term.Op.TheVariants as op
 use Rattle.vd_logic.specs.declared.term.Sort.TheVariants as sort
 use Rattle.vd_logic.specs.declared.term.Term.{Term, Term-F, out-Term}
 use Rattle.vd_logic.specs.declared.term.Term.TheOpen as term
-use Rattle.vd_check.specs.declared.store.Verdict.{Verdict}
-use Rattle.vd_check.specs.declared.store.Verdict.TheVariants.{Accepted, Refused as RefusedAt}
+use Rattle.vd_store.specs.declared.work.Verdict.{Verdict}
+use Rattle.vd_store.specs.declared.work.Verdict.TheVariants.{Accepted, Refused as RefusedAt}
 use Rattle.vd_check.specs.Value.{Value, Locals, value, is_proved}
 
 -- ---- postconditions

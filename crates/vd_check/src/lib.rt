@@ -6,7 +6,6 @@ mod laws;
 mod names;
 mod report;
 mod script;
-mod store;
 mod typing;
 mod value;
 mod whole;
@@ -14,7 +13,6 @@ mod whole;
 pub use form::{LinkParts, Pair, UnitParts};
 pub use laws::{check_laws, safety_laws};
 pub use report::{Failure, Finding};
-pub use store::{Linkset, Outcome, Report, Snapshot, Verdict, WorkKind, WorkName};
 pub use whole::{scratch, try_scratch};
 
 #[cfg(test)]

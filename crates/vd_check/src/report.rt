@@ -3,9 +3,9 @@
 ghost use Rattle.std.specs.Prelude.{◌≡◌, ◌++◌, ◌∷◌, [], flat_map, codes, decimal, string_bytes, IfOk, OnOk};
 ghost use Rattle.vd_check.specs.Report.{kind_text, spaced, function_text, work_text, verdict_text, finding_text, are_accepted, failure_text, link_text, report_lines};
 
-use crate::store::{Report, Verdict, WorkKind, WorkName};
 use std::alloc::{AllocError, Global};
 use vd_base::{List, Name, Text};
+use vd_store::{Report, Verdict, WorkKind, WorkName};
 
 /// A work, and what is found of it.
 #[derive(Drop)]

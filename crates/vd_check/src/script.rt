@@ -5,12 +5,12 @@ ghost use Rattle.vd_check.specs.Script.{vi_of, side, are_equal, is_evident, meet
 ghost use Rattle.vd_check.specs.Value.{value};
 ghost use Rattle.vd_check.specs.Effect.{applied};
 
-use crate::store::Verdict;
 use crate::value::evaluate;
 use std::alloc::{AllocError, Global};
 use vd_base::Name;
 use vd_clight::{TExpr, TStmt, TypedFn};
 use vd_logic::{Assertion, Op, Prop, Rel, Sort, Step, StepNode, Term};
+use vd_store::Verdict;
 
 // ---- postconditions
 

@@ -1,10 +1,10 @@
 use crate::report::{Failure, Finding, report_of};
 use crate::script::judge;
-use crate::store::{Verdict, WorkKind, WorkName};
 use std::alloc::{AllocError, Global};
 use vd_base::{Boxed, CType, List, Name, NameFault, Text};
 use vd_clight::{BinOp, Kind, TExpr, TStmt, TypedFn};
 use vd_logic::{Assertion, Op, Prop, Rel, Sort, Step, StepNode, Term};
+use vd_store::{Verdict, WorkKind, WorkName};
 
 #[derive(Clone, Copy)]
 enum Leaf {

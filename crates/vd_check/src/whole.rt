@@ -9,9 +9,10 @@ ghost use Rattle.vd_check.specs.Scratch.{Scratches, Gives, findings_of, failure_
 use crate::form::{Pair, read_pair};
 use crate::report::{Failure, Finding, are_accepted, report_of};
 use crate::script::judge;
-use crate::store::{Linkset, Outcome, Snapshot, Verdict, WorkKind, WorkName};
 use std::alloc::{AllocError, Global};
 use vd_base::{List, Name, NameFault};
+use vd_outline::outline_laws;
+use vd_store::{Linkset, Outcome, Snapshot, Verdict, WorkKind, WorkName};
 
 fn main_name(alloc: Global) -> Result<Name, AllocError>
     ensures { IfOk result (λ name. name ≡ codes "main") }
@@ -94,8 +95,9 @@ fn check_pair(alloc: Global, pair: &Pair, asked: &Name) -> Result<Outcome, Alloc
 
 /// The unit and the link of the form, which may stand in either order.
 fn pair_of(alloc: Global, texts: &Snapshot) -> Result<Option<Pair>, AllocError>
-    ensures { IfOk result (λ found. MatchOption found (HasForm texts.now.texts → ⊥) (AreTexts texts.now.texts)) }
+    ensures { IfOk result (Finds (AreTexts texts.now.texts)) }
 {
+    outline_laws();
     let [first, second] = texts.texts.as_slice() else {
         return Ok(None);
     };

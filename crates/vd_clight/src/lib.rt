@@ -2,10 +2,15 @@
 //! form: expressions read no memory and have no effect, so a load and a call are statements of their own.
 #![tactic(auto)]
 
+mod expression_text;
+mod function_text;
 mod program;
 mod syntax;
+#[cfg(test)]
+mod tests;
 mod typed;
 
+pub use function_text::print;
 pub use program::{CScope, GlobalDef, Init, Program, Signature};
 pub use syntax::{BinOp, Expr, ExprNode, FnText, Stmt, StmtNode, UnOp};
 pub use typed::{Cond, Kind, LockOp, Lval, Part, Root, TExpr, TStmt, TypedFn};

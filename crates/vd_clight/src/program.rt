@@ -1,7 +1,7 @@
 //! Programs, and what a section's names mean.
 
 use crate::typed::TypedFn;
-use vd_base::{CType, Field, List, Name};
+use vd_base::{CType, Field, List, Name, Structs};
 
 /// An initial value of a cell.
 #[derive(Drop)]
@@ -34,9 +34,10 @@ pub struct Signature {
     pub params: List<Field>,
 }
 
-/// The globals and functions that a section sees.
+/// The structs, globals and functions that a section sees.
 #[derive(Drop)]
 pub struct CScope {
+    pub structs: Structs,
     pub globals: List<(Name, CType)>,
     pub fns: List<Signature>,
 }

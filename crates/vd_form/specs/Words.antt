@@ -4,7 +4,7 @@ use Rattle.std.specs.List.{list_any}
 use Rattle.std.specs.Str.{bytes_eq}
 use Rattle.vd_base.specs.Name.{is_name}
 use Rattle.vd_tokens.specs.declared.alphabet.Alphabet.{Alphabet}
-use Rattle.vd_tokens.specs.declared.alphabet.Alphabet.TheVariants.{C, Logic}
+use Rattle.vd_tokens.specs.declared.alphabet.Alphabet.TheVariants.{C, Declaration, Logic}
 use Rattle.vd_tokens.specs.declared.token.TokenKind.{TokenKind}
 use Rattle.vd_tokens.specs.declared.token.TokenKind.TheVariants as shape
 use Rattle.vd_tokens.specs.Lexeme.{Lexeme as Token}
@@ -90,6 +90,7 @@ is_double_operator sign = list_any (bytes_eq sign)
 -- In the logic the comparisons are no operators.
 abbrev pub is_operator : Alphabet → List ℕ → Bool
 is_operator C sign = is_single_operator sign || is_double_operator sign
+is_operator Declaration sign = is_single_operator sign || is_double_operator sign
 is_operator Logic sign = bytes_eq sign (codes "*")
 
 -- the signs that have a kind of their own

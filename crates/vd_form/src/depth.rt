@@ -12,6 +12,7 @@ pub struct Depth {
     pub operators: u32,
 }
 
+/// The nesting behind a token.
 pub fn after(kind: Kind, depth: Depth) -> Depth
     requires { depth.brackets + depth.operators ≤ 255 }
     ensures { result ≡ nesting.after kind depth }

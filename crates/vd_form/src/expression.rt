@@ -102,6 +102,7 @@ fn operations(alloc: Global, tokens: &mut Tokens<'_>, first: Expr) -> Result<Exp
     Ok(found)
 }
 
+/// An expression: operands with `+` and `-` between them, from left to right.
 #[cycle(expression)]
 #[tactic(auto, using(crate::proofs::Laws::read_is))]
 pub fn expression(alloc: Global, tokens: &mut Tokens<'_>) -> Result<Expr, Stop>

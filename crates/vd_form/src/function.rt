@@ -87,6 +87,7 @@ fn statements(alloc: Global, tokens: &mut Tokens<'_>) -> Result<List<Stmt>, Stop
     Ok(found)
 }
 
+/// A function: its signature, its declarations and its statements.
 #[tactic(auto, using(crate::proofs::Laws::read_is))]
 pub fn function(alloc: Global, tokens: &mut Tokens<'_>) -> Result<FnText, Stop>
     ensures reads { Reads (read Phrase.Function tokens.old) result tokens.new }

@@ -26,6 +26,7 @@ fn more_names(alloc: Global, tokens: &mut Tokens<'_>, first: List<Name>) -> Resu
     Ok(found)
 }
 
+/// Names with commas between them.
 #[tactic(auto, using(crate::proofs::Laws::read_is, vd_grammar::specs::Loops::fronts))]
 pub fn names(alloc: Global, tokens: &mut Tokens<'_>) -> Result<List<Name>, Stop>
     ensures reads { Reads (read Phrase.Names tokens.old) result tokens.new }

@@ -9,6 +9,7 @@ use crate::kind::Kind;
 use crate::token::Tokens;
 use vd_grammar::Stop;
 
+/// The signature `int main ( void )`.
 #[tactic(auto, using(crate::proofs::Laws::read_is))]
 pub fn signature(tokens: &mut Tokens<'_>) -> Result<(), Stop>
     ensures reads { Reads (read Phrase.Signature tokens.old) result tokens.new }

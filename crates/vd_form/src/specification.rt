@@ -119,6 +119,7 @@ fn postcondition(alloc: Global, tokens: &mut Tokens<'_>) -> Result<Assertion, St
     Ok(pure_assertion(alloc, props))
 }
 
+/// A specification: its signature, precondition and postcondition.
 #[tactic(auto, using(crate::proofs::Laws::read_is))]
 pub fn specification(alloc: Global, tokens: &mut Tokens<'_>) -> Result<Spec, Stop>
     ensures reads { Reads (read Phrase.Specification tokens.old) result tokens.new }

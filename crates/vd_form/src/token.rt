@@ -60,6 +60,7 @@ fn has(class: Class, kind: Kind) -> bool
 }
 
 impl<'a> Tokens<'a> {
+    /// A cursor at the first of these tokens.
     pub fn new(left: &'a [Token<'a>]) -> Tokens<'a>
         requires { all_fit (lexemes_of left.now) ≡ true }
         ensures { result ≡ lexemes_of left.now }

@@ -154,11 +154,12 @@ fn is_operator(alphabet: Alphabet, sign: &[u8]) -> bool
     ensures { result ≡ words.is_operator alphabet sign.now }
 {
     match alphabet {
-        Alphabet::C => is_single_operator(sign) || is_double_operator(sign),
+        Alphabet::C | Alphabet::Declaration => is_single_operator(sign) || is_double_operator(sign),
         Alphabet::Logic => is(sign, b"*"),
     }
 }
 
+/// The signs of a section, and whether its numbers may have a suffix.
 pub fn alphabet(section: Section) -> Alphabet
     ensures { result ≡ words.alphabet section }
 {

@@ -1,5 +1,6 @@
 //! Why a text is no section.
 
+/// Why a text is no section of a grammar.
 #[derive(Clone, Copy, Debug, PartialEq, Eq)]
 pub enum ParseFault {
     /// At the place of the first token, or of the first byte that begins none, behind the longest front that begins a section; at the end where none comes.

@@ -70,3 +70,10 @@ pub struct PredDef {
     pub args: List<Sort>,
     pub cases: List<Assertion>,
 }
+
+/// The predicates and specifications that a section sees. A predicate without a definition in scope has no cases.
+#[derive(Drop)]
+pub struct LScope {
+    pub preds: List<PredDef>,
+    pub specs: List<Spec>,
+}

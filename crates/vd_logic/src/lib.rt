@@ -6,6 +6,6 @@ mod assertion;
 mod step;
 mod term;
 
-pub use assertion::{Assertion, Item, Label, PredDef, Prop, Rel, Spec};
-pub use step::{CertLine, Certificate, Step, StepNode};
+pub use assertion::{Assertion, Item, LScope, Label, PredDef, Prop, Rel, Spec};
+pub use step::{Block, CertLine, Certificate, Forgotten, Occurrence, Step, StepNode};
 pub use term::{Op, Sort, Term, copy_terms};

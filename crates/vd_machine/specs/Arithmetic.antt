@@ -1,5 +1,5 @@
 -- Operations on words. A signed result outside 32 bits is stuck, an unsigned one wraps.
-use Rattle.std.specs.Prelude.{ℕ, ◌-◌, ◌*◌, ◌/◌, ◌%◌, ◌^◌, nat_lt, Bool, true, false, not, cond, ◌&&◌, ◌==◌, bit_and, bit_or, bit_xor, ℤ, pos, negsuc, ◌+ℤ◌, ◌-ℤ◌, ◌*ℤ◌, neg_ℤ, int_lt, int_le, int_div, int_rem, Result, Ok, Err}
+use Rattle.std.specs.Prelude.{ℕ, ◌-◌, ◌*◌, ◌/◌, ◌%◌, ◌^◌, nat_lt, Bool, true, false, not, cond, ◌&&◌, ◌==◌, bit_and, bit_or, bit_xor, ℤ, pos, ◌+ℤ◌, ◌-ℤ◌, ◌*ℤ◌, neg_ℤ, int_lt, int_le, int_div, int_rem, Result, Ok, Err}
 use Rattle.vd_clight.specs.declared.syntax.UnOp.{UnOp}
 use Rattle.vd_clight.specs.declared.syntax.UnOp.TheVariants.{Minus, Not, Invert}
 use Rattle.vd_clight.specs.declared.syntax.BinOp.{BinOp}
@@ -7,7 +7,7 @@ use Rattle.vd_clight.specs.declared.syntax.BinOp.TheVariants.{Add, Sub, Mul, Div
 use Rattle.vd_clight.specs.declared.typed.Kind.{Kind}
 use Rattle.vd_clight.specs.declared.typed.Kind.TheVariants.{Signed, Unsigned}
 use Rattle.vd_mem.specs.declared.value.Value.{Value}
-use Rattle.vd_mem.specs.declared.value.Value.TheVariants.{Undef, Int, Ptr}
+use Rattle.vd_mem.specs.declared.value.Value.TheVariants.{Int}
 use Rattle.vd_mem.specs.Word.{wrapped, signed, is_signed}
 use Rattle.vd_machine.specs.declared.answer.Cause.{Cause}
 use Rattle.vd_machine.specs.declared.answer.Cause.TheVariants as cause

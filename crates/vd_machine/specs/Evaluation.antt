@@ -12,9 +12,6 @@ use Rattle.vd_clight.specs.declared.typed.TExpr.{TExpr, TExpr-F, fold-TExpr}
 use Rattle.vd_clight.specs.declared.typed.Lval.{Lval, Lval-F, fold-Lval}
 use Rattle.vd_clight.specs.declared.typed.Cond.{Cond}
 use Rattle.vd_clight.specs.declared.typed.Cond.TheVariants as condition
-use Rattle.vd_clight.specs.declared.syntax.UnOp.{UnOp}
-use Rattle.vd_clight.specs.declared.syntax.BinOp.{BinOp}
-use Rattle.vd_clight.specs.declared.typed.Kind.{Kind}
 use Rattle.vd_mem.specs.declared.value.Value.{Value}
 use Rattle.vd_mem.specs.declared.value.Value.TheVariants.{Undef, Int, Ptr}
 use Rattle.vd_mem.specs.declared.value.Cell.{Cell}

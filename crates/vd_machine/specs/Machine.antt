@@ -1,8 +1,6 @@
 -- The machine as its calls see it, and what they answer.
 use Rattle.std.specs.Prelude.{◌≡◌, ℕ, ◌+◌, ◌<◌, ◌≤◌, Bool, List, take, length, Option, None, Some}
 use Rattle.vd_clight.specs.declared.program.Program.{Program}
-use Rattle.vd_mem.specs.declared.value.Value.{Value}
-use Rattle.vd_machine.specs.declared.answer.Cause.{Cause}
 use Rattle.vd_machine.specs.declared.answer.Turn.{Turn}
 use Rattle.vd_machine.specs.declared.answer.Spot.{Spot}
 use Rattle.vd_machine.specs.declared.answer.Outcome.{Outcome}
@@ -10,8 +8,8 @@ use Rattle.vd_machine.specs.declared.answer.End.{End}
 use Rattle.vd_machine.specs.declared.answer.End.TheVariants as finish
 use Rattle.vd_machine.specs.declared.answer.Stepped.{Stepped}
 use Rattle.vd_machine.specs.declared.answer.Stepped.TheVariants as stepped
-use Rattle.vd_machine.specs.Thread.{System}
-use Rattle.vd_machine.specs.Run.{Turned, Next, Waiting, Resting, Finished, Failed, Open, turn, run, turns, end_of}
+use Rattle.vd_machine.specs.Thread.{System, Ended}
+use Rattle.vd_machine.specs.Run.{Turned, Next, Waiting, Resting, Finished, Failed, Open, set_thread, turn, run, turns, end_of}
 use Rattle.vd_machine.specs.Race.{Races, LeastRace}
 use Rattle.vd_machine.specs.Start.{first_system}
 
@@ -29,16 +27,16 @@ started p = record { program = p; system = first_system p; finish = finish.Open;
 abbrev pub moves_to : Machine → System → Machine
 moves_to w s = record { program = w.program; system = s; finish = w.finish; steps = w.steps + 1 }
 
-abbrev pub ends_with : Machine → End → Machine
-ends_with w e = record { program = w.program; system = w.system; finish = e; steps = w.steps + 1 }
+abbrev pub ends_with : Machine → System → End → Machine
+ends_with w s e = record { program = w.program; system = s; finish = e; steps = w.steps + 1 }
 
 -- the answer to a turn of thread n, and the machine after it
 abbrev pub answered : Turned → ℕ → Machine → Stepped × Machine
 answered (Next s) n w = (stepped.Moved, moves_to w s)
 answered Waiting n w = (stepped.Blocked, w)
 answered Resting n w = (stepped.Idle, w)
-answered (Finished v) n w = (stepped.Finished v, ends_with w (finish.Main v))
-answered (Failed c) n w = (stepped.Stuck n c, ends_with w (finish.Stuck n c))
+answered (Finished v) n w = (stepped.Finished v, ends_with w (set_thread w.system n Ended) (finish.Main v))
+answered (Failed c) n w = (stepped.Stuck n c, ends_with w w.system (finish.Stuck n c))
 
 abbrev pub turned_at : End → Machine → ℕ → Bool → Stepped × Machine
 turned_at finish.Open w n pick = answered (turn w.program n pick w.system) n w

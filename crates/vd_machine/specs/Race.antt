@@ -1,6 +1,5 @@
 -- Races: two next statements touch one live cell, and at least one of them writes it.
-use Rattle.std.specs.Prelude.{◌≡◌, ◌≢◌, ℕ, ◌<◌, ◌≤◌, Bool, List, Option, None, Some, IsSome, slice_get, Ok, ◌⊎◌}
-use Rattle.vd_clight.specs.declared.program.Program.{Program}
+use Rattle.std.specs.Prelude.{◌≡◌, ℕ, ◌<◌, ◌≤◌, List, Option, None, Some, IsSome, slice_get, Ok, ◌⊎◌}
 use Rattle.vd_clight.specs.declared.program.GlobalDef.{GlobalDef}
 use Rattle.vd_clight.specs.declared.typed.TStmt.{TStmt, TStmt-F}
 use Rattle.vd_clight.specs.declared.typed.TStmt.TheOpen as statement
@@ -11,7 +10,7 @@ use Rattle.vd_mem.specs.declared.value.Value.TheVariants.{Ptr}
 use Rattle.vd_mem.specs.Memory.{Block, cell_at}
 use Rattle.vd_machine.specs.Arithmetic.{Evaluated}
 use Rattle.vd_machine.specs.Evaluation.{Temps, eval, address}
-use Rattle.vd_machine.specs.Thread.{Frame, Thread, Ended, Running, Focus, System, next}
+use Rattle.vd_machine.specs.Thread.{Thread, Ended, Running, Focus, System, next}
 
 -- a value is the address of this live cell
 abbrev pub IsAt : Evaluated → List Block → ℕ → ℕ → Type 0

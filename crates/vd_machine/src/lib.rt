@@ -3,5 +3,19 @@
 #![tactic(auto)]
 
 mod answer;
+mod effect;
+mod evaluate;
+mod frame;
+mod machine;
+mod rival;
+mod schedule;
+mod statement;
+#[cfg(test)]
+mod tests;
+mod touch;
+mod turn;
+mod word;
 
 pub use answer::{Cause, End, Outcome, Spot, Stepped, Turn};
+pub use machine::Machine;
+pub use schedule::run;

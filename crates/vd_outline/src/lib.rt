@@ -12,6 +12,7 @@ mod section;
 mod seen;
 
 pub use laws::outline_laws;
+pub use line::cut_at;
 pub use outline::{Outline, OutlineFault, TextKind, head_of, outline_of};
 pub use section::{Section, SectionKind, find};
 

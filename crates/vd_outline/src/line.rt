@@ -4,8 +4,8 @@ ghost use Rattle.std.specs.Prelude.{◌≡◌, true, ◌++◌, ◌∷◌, MatchO
 ghost use Rattle.std.specs.Str.{bytes_eq};
 ghost use Rattle.vd_outline.specs.Lines.{lacks, is_line};
 
-/// What stands before the first byte of this value, and what stands behind it.
-pub(crate) fn cut_at(bytes: &[u8], separator: u8) -> Option<(&[u8], &[u8])>
+/// What stands before the first byte of this value, and what stands behind it; none where no byte has it.
+pub fn cut_at(bytes: &[u8], separator: u8) -> Option<(&[u8], &[u8])>
     ensures { MatchOption result (lacks separator bytes.now ≡ true) (λ cut. (bytes.now ≡ cut.0.now ++ separator ∷ cut.1.now) × (lacks separator cut.0.now ≡ true)) }
 {
     for (at, byte) in bytes.iter().enumerate() {

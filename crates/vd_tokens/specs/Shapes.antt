@@ -4,7 +4,7 @@ use Rattle.std.specs.Prelude.{if◌then◌else◌, ◌==◌, nat_le}
 use Rattle.std.specs.List.{list_any}
 use Rattle.std.proofs.lemmas.Bool.{leb-true, lt-leb, ne_eqb, eqb-true}
 use Rattle.vd_tokens.specs.declared.alphabet.Alphabet.{Alphabet}
-use Rattle.vd_tokens.specs.declared.alphabet.Alphabet.TheVariants.{C, Logic}
+use Rattle.vd_tokens.specs.declared.alphabet.Alphabet.TheVariants.{C, Declaration, Logic}
 use Rattle.vd_tokens.specs.declared.token.TokenKind.TheVariants as kind
 use Rattle.vd_tokens.specs.Bytes.{is_digit, is_letter, is_word_byte, is_blank, is_no_line_feed, AllBytes}
 use Rattle.vd_tokens.specs.Signs.{singles, pairs, is_single, is_two, is_pair, allows_suffix}
@@ -163,10 +163,12 @@ any_pair q (x ∷ xs) b c h g = let p = and_parts (q x) (all_lists q xs) g in el
 
 singles_fit : (alphabet : Alphabet) → all_bytes (λ b. is_sign (shape_of alphabet (b ∷ []))) (singles alphabet) ≡ true
 singles_fit C = refl
+singles_fit Declaration = refl
 singles_fit Logic = refl
 
 pairs_fit : (alphabet : Alphabet) → all_lists (λ bs. is_sign (shape_of alphabet bs)) (pairs alphabet) ≡ true
 pairs_fit C = refl
+pairs_fit Declaration = refl
 pairs_fit Logic = refl
 
 single_shape : (alphabet : Alphabet) (b : ℕ) → is_single alphabet b ≡ true → shape_of alphabet (b ∷ []) ≡ Some (Token kind.Sign)

@@ -1,4 +1,4 @@
-//! What differs between the texts of C and of the logic.
+//! What differs between the texts of C, of its declarations and of the logic.
 
 ghost use Rattle.std.specs.Prelude.{◌≡◌};
 ghost use Rattle.vd_tokens.specs.Signs as signs;
@@ -6,7 +6,10 @@ ghost use Rattle.vd_tokens.specs.Signs as signs;
 /// Which signs there are, and whether a number may have the suffix `u`.
 #[derive(Clone, Copy, Debug, PartialEq, Eq)]
 pub enum Alphabet {
+    /// Functions.
     C,
+    /// Structs and globals.
+    Declaration,
     Logic,
 }
 
@@ -15,7 +18,7 @@ impl Alphabet {
         ensures { result ≡ signs.allows_suffix self }
     {
         match self {
-            Alphabet::C => true,
+            Alphabet::C | Alphabet::Declaration => true,
             Alphabet::Logic => false,
         }
     }
@@ -26,6 +29,7 @@ impl Alphabet {
     {
         match self {
             Alphabet::C => b"(){}[];,=<>+-*/%&|^!~.".iter().any(|b| *b == byte),
+            Alphabet::Declaration => b"{}[];,=-*&".iter().any(|b| *b == byte),
             Alphabet::Logic => b"(){}[];:,=<+-*".iter().any(|b| *b == byte),
         }
     }
@@ -40,6 +44,7 @@ impl Alphabet {
                 (b'<', b'<') | (b'>', b'>') | (b'-', b'>') => true,
                 _ => false,
             },
+            Alphabet::Declaration => false,
             Alphabet::Logic => matches!((first, second), (b'!', b'=') | (b'<', b'=')),
         }
     }

@@ -8,6 +8,7 @@ pub enum TokenKind {
     Sign,
 }
 
+/// A token of a text: its bytes, and where they begin.
 #[derive(Clone, Copy)]
 pub struct Token<'a> {
     pub kind: TokenKind,
@@ -25,6 +26,7 @@ pub enum End {
     Unknown(u32),
 }
 
+/// The tokens in front of the text's end, or of the first byte that begins none.
 #[derive(Drop)]
 pub struct Tokenized<'a> {
     pub tokens: Vec<Token<'a>>,

@@ -1,5 +1,5 @@
 use Rattle.std.proofs.Common.{refl}
-use Rattle.vd_check.specs.declared.store.Verdict.TheVariants.{Accepted, Refused}
+use Rattle.vd_store.specs.declared.work.Verdict.TheVariants.{Accepted, Refused}
 use Rattle.vd_check.proofs.Scripts.{verdict_behind, good_at_end, extra_behind, refused_here, lacks_step}
 use Rattle.vd_check.proofs.script.follow.Goals as goal
 

@@ -1,6 +1,6 @@
 use Rattle.std.proofs.Common.{length}
 use Rattle.vd_check.specs.Script.{HasVerdictFrom}
-use Rattle.vd_check.specs.declared.store.Verdict.{Verdict}
+use Rattle.vd_store.specs.declared.work.Verdict.{Verdict}
 use Rattle.vd_check.proofs.script.follow.Given as goal
 
 -- a verdict from the state reached is one from the first state

@@ -1,0 +1,71 @@
+-- Typed functions.
+use Rattle.std.specs.Prelude.{◌≡◌, ℕ, Bool, true, not, ◌&&◌, ◌||◌, List, [], ◌∷◌, ◌++◌, None, Some, length, map, Result, Ok, Err, ⊤, if◌then◌else◌}
+use Rattle.std.specs.List.{list_any, list_all}
+use Rattle.std.specs.Str.{bytes_eq}
+use Rattle.vd_base.specs.declared.ctype.CType.{CType, Void}
+use Rattle.vd_base.specs.declared.ctype.Field.{Field}
+use Rattle.vd_clight.specs.declared.program.CScope.{CScope}
+use Rattle.vd_clight.specs.declared.syntax.FnText.{FnText}
+use Rattle.vd_clight.specs.declared.typed.TStmt.{TStmt}
+use Rattle.vd_clight.specs.declared.typed.TypedFn.{TypedFn}
+use Rattle.vd_ctyping.specs.declared.fault.TypeFault.{TypeFault}
+use Rattle.vd_ctyping.specs.declared.fault.TypeFault.TheVariants as fault
+use Rattle.vd_ctyping.specs.declared.checked.Checked.{Checked}
+use Rattle.vd_ctyping.specs.declared.checked.Checked.TheVariants.{Typed, Untyped}
+use Rattle.vd_ctyping.specs.Environment.{Environment, names_of}
+use Rattle.vd_ctyping.specs.Statement.{block, typed_statement}
+use Rattle.vd_ctyping.specs.Types.{is_scalar, is_void}
+
+-- ---- declarations
+
+-- no name stands twice
+abbrev pub are_distinct : List (List ℕ) → Bool
+are_distinct [] = true
+are_distinct (n ∷ ns) = not (list_any (bytes_eq n) ns) && are_distinct ns
+
+-- parameters and temporaries hold integers and pointers
+abbrev pub are_scalars : List Field → Bool
+are_scalars fields = list_all (λ f. is_scalar f.typ) fields
+
+-- a function returns an integer, a pointer or nothing
+abbrev pub is_result : CType → Bool
+is_result t = is_void t || is_scalar t
+
+-- all variables' names, the parameters' first
+abbrev pub variables : FnText → List (List ℕ)
+variables f = names_of f.params ++ names_of f.temps
+
+-- the function and its variables have names of their own, and types that a variable or a result may have
+abbrev pub are_declared : FnText → Bool
+are_declared f = is_result f.ret && (are_scalars f.params && (are_scalars f.temps && are_distinct (f.name ∷ variables f)))
+
+-- ---- functions
+
+-- what the statements of a function see
+abbrev pub environment : CScope → FnText → Environment
+environment scope f =
+    record { params = f.params; temps = f.temps; returned = f.ret; globals = scope.globals; functions = scope.fns; structs = scope.structs }
+
+abbrev pub with_body : FnText → List TStmt → TypedFn
+with_body f body = record { name = f.name; ret = f.ret; params = length f.params; temps = variables f; body = body }
+
+abbrev pub finished : FnText → Checked (List TStmt) → Result TypedFn TypeFault
+finished f (Typed body None) = Ok (with_body f body)
+finished f (Typed body (Some fault)) = Err fault
+finished f (Untyped fault) = Err fault
+
+-- the body, or the first fault of its statements
+abbrev pub body_of : CScope → FnText → Checked (List TStmt)
+body_of scope f = block (map (typed_statement (environment scope f)) f.body)
+
+-- the typed function, or its first fault; declarations stand at place 0, before all else
+abbrev pub typed_function : CScope → FnText → Result TypedFn TypeFault
+typed_function scope f = if are_declared f then finished f (body_of scope f) else Err (fault.Mismatch 0 Void Void)
+
+-- an answer is the typed function or its first fault, unless memory ran out
+abbrev pub Answers : Result TypedFn TypeFault → Result TypedFn TypeFault → Type 0
+Answers typed (Ok f) = typed ≡ Ok f
+Answers typed (Err fault.Memory) = ⊤
+Answers typed (Err (fault.Unknown place name)) = typed ≡ Err (fault.Unknown place name)
+Answers typed (Err (fault.Mismatch place wanted given)) = typed ≡ Err (fault.Mismatch place wanted given)
+Answers typed (Err (fault.NotNormal place)) = typed ≡ Err (fault.NotNormal place)

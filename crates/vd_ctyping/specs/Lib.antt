@@ -1,0 +1,12 @@
+pub mod Call
+pub mod Checked
+pub mod Environment
+pub mod Expression
+pub mod Fault
+pub mod Found
+pub mod Function
+pub mod NameTable
+pub mod Operation
+pub mod Place
+pub mod Statement
+pub mod Types

@@ -1,0 +1,356 @@
+//! Operations and casts.
+
+ghost use Rattle.std.specs.Prelude.{◌≡◌, IfOk};
+ghost use Rattle.vd_clight.specs.declared.typed.TExpr.{Binary};
+ghost use Rattle.vd_ctyping.specs.Operation.{wants_integer, wants_integers, wants_unsigned, wants_bits, wants_shift, wants, wants_cast, wants_alike, computed, common, opposite, complement, negation, judge_unary, arithmetic, bitwise, shift, comparison, equality, binary, judge_binary, cast, judge_cast, comparable};
+
+use crate::checked::{Checked, also, fine, pair, unless};
+use crate::fault::{TypeFault, first};
+use crate::found::{Condition, Form, Found, Operand, condition_of, operand_of};
+use crate::shape::{converts, is_castable, is_integer, is_scalar, is_unsigned, kind_of};
+use std::alloc::{AllocError, Global};
+use vd_base::{Boxed, CType};
+use vd_clight::{BinOp, Cond, Kind, TExpr, UnOp};
+
+// ---- what operands have to be
+
+pub(crate) fn wants_integer(alloc: Global, o: &Operand) -> Result<Option<TypeFault>, AllocError>
+    ensures { IfOk result (λ f. f ≡ wants_integer o.now) }
+{
+    if is_integer(&o.typ) {
+        return Ok(None);
+    }
+    let found = o.typ.copy(alloc)?;
+    Ok(Some(TypeFault::Mismatch(o.place, CType::Void, found)))
+}
+
+fn wants_integers(alloc: Global, a: &Operand, b: &Operand) -> Result<Option<TypeFault>, AllocError>
+    ensures { IfOk result (λ f. f ≡ wants_integers a.now b.now) }
+{
+    let left = wants_integer(alloc, a)?;
+    let right = wants_integer(alloc, b)?;
+    Ok(first(left, right))
+}
+
+fn wants_unsigned(alloc: Global, o: &Operand) -> Result<Option<TypeFault>, AllocError>
+    ensures { IfOk result (λ f. f ≡ wants_unsigned o.now) }
+{
+    if is_unsigned(&o.typ) {
+        return Ok(None);
+    }
+    let found = o.typ.copy(alloc)?;
+    Ok(Some(TypeFault::Mismatch(o.place, CType::Unsigned, found)))
+}
+
+/// Operands of a bit operation are integers, one of them unsigned.
+fn wants_bits(alloc: Global, a: &Operand, b: &Operand) -> Result<Option<TypeFault>, AllocError>
+    ensures { IfOk result (λ f. f ≡ wants_bits a.now b.now) }
+{
+    if is_integer(&a.typ) && is_integer(&b.typ) {
+        if is_unsigned(&b.typ) {
+            return Ok(None);
+        }
+        return wants_unsigned(alloc, a);
+    }
+    wants_integers(alloc, a, b)
+}
+
+fn wants_shift(alloc: Global, a: &Operand, b: &Operand) -> Result<Option<TypeFault>, AllocError>
+    ensures { IfOk result (λ f. f ≡ wants_shift a.now b.now) }
+{
+    let left = wants_unsigned(alloc, a)?;
+    let right = wants_integer(alloc, b)?;
+    Ok(first(left, right))
+}
+
+/// A value that has to convert to a type.
+pub(crate) fn wants(alloc: Global, t: &CType, o: &Operand) -> Result<Option<TypeFault>, AllocError>
+    ensures { IfOk result (λ f. f ≡ wants t.now o.now) }
+{
+    if converts(o.zero, &o.typ, t) {
+        return Ok(None);
+    }
+    let wanted = t.copy(alloc)?;
+    let found = o.typ.copy(alloc)?;
+    Ok(Some(TypeFault::Mismatch(o.place, wanted, found)))
+}
+
+fn wants_cast(alloc: Global, t: &CType, o: &Operand) -> Result<Option<TypeFault>, AllocError>
+    ensures { IfOk result (λ f. f ≡ wants_cast t.now o.now) }
+{
+    if is_castable(o.zero, &o.typ, t) {
+        return Ok(None);
+    }
+    let wanted = t.copy(alloc)?;
+    let found = o.typ.copy(alloc)?;
+    Ok(Some(TypeFault::Mismatch(o.place, wanted, found)))
+}
+
+fn are_comparable(a: &Operand, b: &Operand) -> bool
+    ensures { result ≡ comparable a.now b.now }
+{
+    converts(a.zero, &a.typ, &b.typ) || converts(b.zero, &b.typ, &a.typ)
+}
+
+/// Two values of which one converts to the other's type.
+fn wants_alike(alloc: Global, a: &Operand, b: &Operand) -> Result<Option<TypeFault>, AllocError>
+    ensures { IfOk result (λ f. f ≡ wants_alike a.now b.now) }
+{
+    if are_comparable(a, b) {
+        return Ok(None);
+    }
+    let left = a.typ.copy(alloc)?;
+    if is_scalar(&a.typ) {
+        let right = b.typ.copy(alloc)?;
+        return Ok(Some(TypeFault::Mismatch(b.place, left, right)));
+    }
+    Ok(Some(TypeFault::Mismatch(a.place, CType::Void, left)))
+}
+
+// ---- one operand
+
+pub(crate) fn computed(place: u32, typ: CType, value: TExpr) -> Found
+    ensures { result ≡ computed place typ value }
+{
+    let form = Form::Value(value);
+    Found { place, typ, form }
+}
+
+fn opposite(alloc: Global, place: u32, o: Operand) -> Result<Checked<Found>, AllocError>
+    ensures { IfOk result (λ f. f ≡ opposite place o) }
+{
+    let fault = wants_integer(alloc, &o)?;
+    let kind = kind_of(&o.typ);
+    let value = TExpr::Unary(UnOp::Minus, kind, Boxed::new(alloc, o.value)?);
+    Ok(unless(fault, computed(place, o.typ, value)))
+}
+
+fn complement(alloc: Global, place: u32, o: Operand) -> Result<Checked<Found>, AllocError>
+    ensures { IfOk result (λ f. f ≡ complement place o) }
+{
+    let fault = wants_unsigned(alloc, &o)?;
+    let value = TExpr::Unary(UnOp::Invert, Kind::Unsigned, Boxed::new(alloc, o.value)?);
+    Ok(unless(fault, computed(place, CType::Unsigned, value)))
+}
+
+fn negation(alloc: Global, place: u32, c: Condition) -> Result<Checked<Found>, AllocError>
+    ensures { IfOk result (λ f. f ≡ negation place c) }
+{
+    let Condition { place: at, test } = c;
+    match test {
+        Cond::Int(kind, value) => {
+            let value = TExpr::Unary(UnOp::Not, kind, Boxed::new(alloc, value)?);
+            Ok(fine(computed(place, CType::Int, value)))
+        }
+        Cond::Same(a, b, equal) => Ok(fine(Found {
+            place,
+            typ: CType::Int,
+            form: Form::Test(at, a, b, !equal),
+        })),
+    }
+}
+
+/// A prefix operator and its operand.
+pub(crate) fn judge_unary(
+    alloc: Global,
+    op: UnOp,
+    place: u32,
+    part: Checked<Found>,
+) -> Result<Checked<Found>, AllocError>
+    ensures { IfOk result (λ f. f ≡ judge_unary op place part) }
+{
+    match op {
+        UnOp::Minus => match operand_of(alloc, part)? {
+            Checked::Untyped(fault) => Ok(Checked::Untyped(fault)),
+            Checked::Typed(o, fault) => Ok(also(fault, opposite(alloc, place, o)?)),
+        },
+        UnOp::Not => match condition_of(alloc, part)? {
+            Checked::Untyped(fault) => Ok(Checked::Untyped(fault)),
+            Checked::Typed(c, fault) => Ok(also(fault, negation(alloc, place, c)?)),
+        },
+        UnOp::Invert => match operand_of(alloc, part)? {
+            Checked::Untyped(fault) => Ok(Checked::Untyped(fault)),
+            Checked::Typed(o, fault) => Ok(also(fault, complement(alloc, place, o)?)),
+        },
+    }
+}
+
+// ---- two operands
+
+/// Unsigned where an operand is, else int.
+fn common(a: &Operand, b: &Operand) -> CType
+    ensures { result ≡ common a.now b.now }
+{
+    if is_unsigned(&a.typ) || is_unsigned(&b.typ) {
+        CType::Unsigned
+    } else {
+        CType::Int
+    }
+}
+
+fn operation(
+    alloc: Global,
+    op: BinOp,
+    kind: Kind,
+    a: Operand,
+    b: Operand,
+) -> Result<TExpr, AllocError>
+    ensures { IfOk result (λ e. e ≡ Binary op kind a.value b.value) }
+{
+    let left = Boxed::new(alloc, a.value)?;
+    let right = Boxed::new(alloc, b.value)?;
+    Ok(TExpr::Binary(op, kind, left, right))
+}
+
+fn arithmetic(
+    alloc: Global,
+    op: BinOp,
+    place: u32,
+    a: Operand,
+    b: Operand,
+) -> Result<Checked<Found>, AllocError>
+    ensures { IfOk result (λ f. f ≡ arithmetic op place a b) }
+{
+    let fault = wants_integers(alloc, &a, &b)?;
+    let typ = common(&a, &b);
+    let value = operation(alloc, op, kind_of(&typ), a, b)?;
+    Ok(unless(fault, computed(place, typ, value)))
+}
+
+fn bitwise(
+    alloc: Global,
+    op: BinOp,
+    place: u32,
+    a: Operand,
+    b: Operand,
+) -> Result<Checked<Found>, AllocError>
+    ensures { IfOk result (λ f. f ≡ bitwise op place a b) }
+{
+    let fault = wants_bits(alloc, &a, &b)?;
+    let value = operation(alloc, op, Kind::Unsigned, a, b)?;
+    Ok(unless(fault, computed(place, CType::Unsigned, value)))
+}
+
+fn shift(
+    alloc: Global,
+    op: BinOp,
+    place: u32,
+    a: Operand,
+    b: Operand,
+) -> Result<Checked<Found>, AllocError>
+    ensures { IfOk result (λ f. f ≡ shift op place a b) }
+{
+    let fault = wants_shift(alloc, &a, &b)?;
+    let value = operation(alloc, op, Kind::Unsigned, a, b)?;
+    Ok(unless(fault, computed(place, CType::Unsigned, value)))
+}
+
+fn comparison(
+    alloc: Global,
+    op: BinOp,
+    place: u32,
+    a: Operand,
+    b: Operand,
+) -> Result<Checked<Found>, AllocError>
+    ensures { IfOk result (λ f. f ≡ comparison op place a b) }
+{
+    let fault = wants_integers(alloc, &a, &b)?;
+    let kind = kind_of(&common(&a, &b));
+    let value = operation(alloc, op, kind, a, b)?;
+    Ok(unless(fault, computed(place, CType::Int, value)))
+}
+
+/// Whether two values are equal, or whether they differ: of integers an operation, of pointers a test.
+fn equality(
+    alloc: Global,
+    op: BinOp,
+    equal: bool,
+    place: u32,
+    a: Operand,
+    b: Operand,
+) -> Result<Checked<Found>, AllocError>
+    ensures { IfOk result (λ f. f ≡ equality op equal place a b) }
+{
+    if is_integer(&a.typ) && is_integer(&b.typ) {
+        return comparison(alloc, op, place, a, b);
+    }
+    let fault = wants_alike(alloc, &a, &b)?;
+    let form = Form::Test(place, a.value, b.value, equal);
+    let typ = CType::Int;
+    Ok(unless(fault, Found { place, typ, form }))
+}
+
+fn binary(
+    alloc: Global,
+    op: BinOp,
+    place: u32,
+    a: Operand,
+    b: Operand,
+) -> Result<Checked<Found>, AllocError>
+    ensures { IfOk result (λ f. f ≡ binary op place (a, b)) }
+{
+    match op {
+        BinOp::Add => arithmetic(alloc, op, place, a, b),
+        BinOp::Sub => arithmetic(alloc, op, place, a, b),
+        BinOp::Mul => arithmetic(alloc, op, place, a, b),
+        BinOp::Div => arithmetic(alloc, op, place, a, b),
+        BinOp::Rem => arithmetic(alloc, op, place, a, b),
+        BinOp::And => bitwise(alloc, op, place, a, b),
+        BinOp::Or => bitwise(alloc, op, place, a, b),
+        BinOp::Xor => bitwise(alloc, op, place, a, b),
+        BinOp::Shl => shift(alloc, op, place, a, b),
+        BinOp::Shr => shift(alloc, op, place, a, b),
+        BinOp::Eq => equality(alloc, op, true, place, a, b),
+        BinOp::Ne => equality(alloc, op, false, place, a, b),
+        BinOp::Lt => comparison(alloc, op, place, a, b),
+        BinOp::Le => comparison(alloc, op, place, a, b),
+        BinOp::Gt => comparison(alloc, op, place, a, b),
+        BinOp::Ge => comparison(alloc, op, place, a, b),
+    }
+}
+
+/// An operator between two operands.
+pub(crate) fn judge_binary(
+    alloc: Global,
+    op: BinOp,
+    place: u32,
+    left: Checked<Found>,
+    right: Checked<Found>,
+) -> Result<Checked<Found>, AllocError>
+    ensures { IfOk result (λ f. f ≡ judge_binary op place left right) }
+{
+    let left = operand_of(alloc, left)?;
+    let right = operand_of(alloc, right)?;
+    match pair(left, right) {
+        Checked::Untyped(fault) => Ok(Checked::Untyped(fault)),
+        Checked::Typed(both, fault) => {
+            let (a, b) = both;
+            Ok(also(fault, binary(alloc, op, place, a, b)?))
+        }
+    }
+}
+
+// ---- casts
+
+fn cast(alloc: Global, place: u32, t: &CType, o: Operand) -> Result<Checked<Found>, AllocError>
+    ensures { IfOk result (λ f. f ≡ cast place t.now o) }
+{
+    let fault = wants_cast(alloc, t, &o)?;
+    let typ = t.copy(alloc)?;
+    Ok(unless(fault, computed(place, typ, o.value)))
+}
+
+/// A cast, which leaves nothing in typed syntax.
+pub(crate) fn judge_cast(
+    alloc: Global,
+    place: u32,
+    t: &CType,
+    part: Checked<Found>,
+) -> Result<Checked<Found>, AllocError>
+    ensures { IfOk result (λ f. f ≡ judge_cast place t.now part) }
+{
+    match operand_of(alloc, part)? {
+        Checked::Untyped(fault) => Ok(Checked::Untyped(fault)),
+        Checked::Typed(o, fault) => Ok(also(fault, cast(alloc, place, t, o)?)),
+    }
+}

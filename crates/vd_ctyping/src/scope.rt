@@ -1,0 +1,101 @@
+//! What the names of a function stand for.
+
+ghost use Rattle.std.specs.Prelude.{◌≡◌, ◌≤◌, ◌+◌, ◌^◌, ◌<◌, option_map, option_copied, length, List, ℕ};
+ghost use Rattle.vd_ctyping.specs.Environment.{local_in, local_of, global_of, function_of, names_of};
+ghost use Rattle.vd_ctyping.specs.NameTable.{Numbers};
+
+use crate::names::NameTable;
+use std::marker::Model;
+use vd_base::{CType, Field, Name, Structs};
+use vd_clight::{CScope, Signature};
+
+/// What a function's statements see. Contracts see the lists; the tables keep the numbers of names.
+#[derive(Drop)]
+pub(crate) struct Scope<'a> {
+    pub(crate) params: &'a [Field],
+    pub(crate) temps: &'a [Field],
+    pub(crate) returned: &'a CType,
+    pub(crate) seen: &'a CScope,
+    pub(crate) param_numbers: NameTable<'a>,
+    pub(crate) temp_numbers: NameTable<'a>,
+    pub(crate) global_numbers: NameTable<'a>,
+    pub(crate) function_numbers: NameTable<'a>,
+}
+
+impl<'a> Model for Scope<'a> {
+    ghost use Rattle.std.specs.Coded.{codes};
+    ghost use Rattle.std.specs.Prelude.{◌<◌, ◌+◌, ◌^◌, length};
+    ghost use Rattle.vd_base.specs.contracts.ctype.CType as ctype;
+    ghost use Rattle.vd_ctyping.specs.Environment.{Environment, names_of, global_names, function_names};
+    ghost use Rattle.vd_ctyping.specs.NameTable.{Numbers};
+
+    ghost Value = { Environment };
+
+    ghost coded = { Prim.hlevel (codes, ctype.the_row.coded) };
+
+    ghost view = { λ s. record { params = s.params.now; temps = s.temps.now; returned = s.returned.now; globals = s.seen.now.globals; functions = s.seen.now.fns; structs = s.seen.now.structs } };
+
+    ghost invariant = { λ s. (length s.params.now + length s.temps.now < 2 ^ 32) × (Numbers s.param_numbers (names_of s.params.now) × (Numbers s.temp_numbers (names_of s.temps.now) × (Numbers s.global_numbers (global_names s.seen.now.globals) × Numbers s.function_numbers (function_names s.seen.now.fns)))) };
+}
+
+/// A variable among some that are numbered from a base.
+fn local_in<'a>(
+    base: u32,
+    table: &NameTable<'_>,
+    fields: &'a [Field],
+    name: &Name,
+) -> Option<(u32, &'a CType)>
+    requires few { base + length fields.now < 2 ^ 32 }
+    requires numbered { Numbers table.now (names_of fields.now) }
+    ensures { option_map (λ r. (r.0, r.1.now)) result ≡ local_in base fields.now name.now }
+{
+    let number = table.number(name.as_bytes())?;
+    let field = fields.get(number as usize)?;
+    Some((base + number, &field.typ))
+}
+
+impl<'a> Scope<'a> {
+    /// The structs that are there.
+    pub(crate) fn structs(&self) -> &Structs
+        ensures { result.now ≡ self.now.structs }
+    {
+        &self.seen.structs
+    }
+
+    /// The type of what the function returns.
+    pub(crate) fn returned(&self) -> &CType
+        ensures { result.now ≡ self.now.returned }
+    {
+        self.returned
+    }
+
+    /// The number and the type of a parameter or temporary.
+    pub(crate) fn local(&self, name: &Name) -> Option<(u32, &CType)>
+        ensures { option_map (λ r. (r.0, r.1.now)) result ≡ local_of self.now name.now }
+    {
+        match local_in(0, &self.param_numbers, self.params, name) {
+            Some(found) => Some(found),
+            None => {
+                let base = self.params.len() as u32;
+                local_in(base, &self.temp_numbers, self.temps, name)
+            }
+        }
+    }
+
+    /// The type of a global.
+    pub(crate) fn global(&self, name: &Name) -> Option<&CType>
+        ensures { option_copied result ≡ global_of self.now name.now }
+    {
+        let number = self.global_numbers.number(name.as_bytes())?;
+        let global = self.seen.globals.get(number as usize)?;
+        Some(&global.1)
+    }
+
+    /// A function of this section or of another.
+    pub(crate) fn function(&self, name: &Name) -> Option<&Signature>
+        ensures { option_copied result ≡ function_of self.now name.now }
+    {
+        let number = self.function_numbers.number(name.as_bytes())?;
+        self.seen.fns.get(number as usize)
+    }
+}

@@ -1,0 +1,139 @@
+//! Calls of `spawn`, and which kind of call a name stands for.
+
+ghost use Rattle.std.specs.Prelude.{◌≡◌, option_copied, IfOk};
+ghost use Rattle.vd_ctyping.specs.Call.{name_of, starts_by, spawned, spawn_named, call_spawn, call};
+
+use crate::builtin::builtin_of;
+use crate::call::{
+    call_builtin, call_function, call_malloc, disagrees, one, passed_by, result_of, two,
+};
+use crate::checked::{Checked, also, fine, pair};
+use crate::expression::judge;
+use crate::fault::TypeFault;
+use crate::found::operand_of;
+use crate::scope::Scope;
+use crate::shape::is_void;
+use std::alloc::{AllocError, Global};
+use vd_base::{CType, Name};
+use vd_clight::{Expr, ExprNode, Signature, TExpr, TStmt};
+
+/// The name that an expression is.
+fn name_of(e: &Expr) -> Option<&Name>
+    ensures { option_copied result ≡ name_of e.now }
+{
+    match &e.node {
+        ExprNode::Ident(name) => Some(name),
+        _ => None,
+    }
+}
+
+/// The type of the one parameter of a void function.
+fn starts_by(
+    alloc: Global,
+    at: u32,
+    name: &Name,
+    signature: Option<&Signature>,
+) -> Result<Checked<CType>, AllocError>
+    ensures { IfOk result (λ t. t ≡ starts_by at name.now (option_copied signature.entry)) }
+{
+    match signature {
+        None => {
+            let name = name.copy(alloc)?;
+            Ok(Checked::Untyped(TypeFault::Unknown(at, name)))
+        }
+        Some(signature) => match one(signature.params.as_slice()) {
+            None => Ok(Checked::Untyped(disagrees(at))),
+            Some(parameter) => {
+                if is_void(&signature.ret) {
+                    return Ok(fine(parameter.typ.copy(alloc)?));
+                }
+                Ok(Checked::Untyped(disagrees(at)))
+            }
+        },
+    }
+}
+
+/// The argument that a thread starts with.
+fn spawned(
+    alloc: Global,
+    scope: &Scope<'_>,
+    at: u32,
+    name: &Name,
+    e: &Expr,
+) -> Result<Checked<TExpr>, AllocError>
+    ensures { IfOk result (λ v. v ≡ spawned scope.now at name.now e.now) }
+{
+    let typ = starts_by(alloc, at, name, scope.function(name))?;
+    let value = operand_of(alloc, judge(alloc, scope, e)?)?;
+    match pair(typ, value) {
+        Checked::Untyped(fault) => Ok(Checked::Untyped(fault)),
+        Checked::Typed(both, fault) => {
+            let (typ, value) = both;
+            Ok(also(fault, passed_by(alloc, Some(&typ), value)?))
+        }
+    }
+}
+
+fn spawn_named(
+    alloc: Global,
+    scope: &Scope<'_>,
+    place: u32,
+    target: Option<&Expr>,
+    at: u32,
+    name: &Name,
+    e: &Expr,
+) -> Result<Checked<TStmt>, AllocError>
+    ensures { IfOk result (λ s. s ≡ spawn_named scope.now place (option_copied target.entry) at name.now e.now) }
+{
+    let to = result_of(alloc, scope, place, target, fine(CType::Void))?;
+    let value = spawned(alloc, scope, at, name, e)?;
+    match pair(to, value) {
+        Checked::Untyped(fault) => Ok(Checked::Untyped(fault)),
+        Checked::Typed(both, fault) => {
+            let (_, value) = both;
+            let name = name.copy(alloc)?;
+            Ok(also(fault, fine(TStmt::Spawn(name, value))))
+        }
+    }
+}
+
+fn call_spawn(
+    alloc: Global,
+    scope: &Scope<'_>,
+    place: u32,
+    target: Option<&Expr>,
+    args: &[Expr],
+) -> Result<Checked<TStmt>, AllocError>
+    ensures { IfOk result (λ s. s ≡ call_spawn scope.now place (option_copied target.entry) args.now) }
+{
+    match two(args) {
+        None => Ok(Checked::Untyped(disagrees(place))),
+        Some(both) => match name_of(both.0) {
+            None => Ok(Checked::Untyped(disagrees(place))),
+            Some(name) => { spawn_named(alloc, scope, place, target, both.0.place, name, both.1) }
+        },
+    }
+}
+
+/// A call.
+pub(crate) fn type_call(
+    alloc: Global,
+    scope: &Scope<'_>,
+    place: u32,
+    target: Option<&Expr>,
+    name: &Name,
+    args: &[Expr],
+) -> Result<Checked<TStmt>, AllocError>
+    ensures { IfOk result (λ s. s ≡ call scope.now place (option_copied target.entry) name.now args.now) }
+{
+    if name.as_bytes() == b"malloc".as_slice() {
+        return call_malloc(alloc, scope, place, target, args);
+    }
+    if name.as_bytes() == b"spawn".as_slice() {
+        return call_spawn(alloc, scope, place, target, args);
+    }
+    match builtin_of(name) {
+        None => call_function(alloc, scope, place, target, name, args),
+        Some(b) => call_builtin(alloc, scope, place, target, b, args),
+    }
+}

@@ -1,0 +1,15 @@
+pub mod Calls
+pub mod Calm
+pub mod Clashes
+pub mod Codes
+pub mod Gives
+pub mod Globals
+pub mod Growth
+pub mod Layers
+pub mod Rivals
+pub mod Rooms
+pub mod Runs
+pub mod Spawning
+pub mod Touching
+pub mod Turns
+pub mod Walks

@@ -1,0 +1,9 @@
+use Rattle.std.proofs.Common.{length}
+use Rattle.vd_machine.specs.Passing.{SameLoops}
+use Rattle.vd_machine.proofs.frame.skip.Given as goal
+
+abbrev pub invariant-loop-frame : goal.invariant-loop-frame
+invariant-loop-frame l = SameLoops l.frame l.initial.frame
+
+abbrev pub decreases-loop-frame : goal.decreases-loop-frame
+decreases-loop-frame l = length l.frame.below.items
