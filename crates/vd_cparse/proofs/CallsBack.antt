@@ -61,17 +61,17 @@ pub record Back (S : Sort) (v : Value S) (us : List Lexeme) : Type 0 where
   pub is : Is grammar S us value
   pub same : bare S value ≡ bare S v
 
-call_cut : (ws : Words) → ws ++ codes ")" ∷ one (codes ";") ≡ (ws ++ one (codes ")")) ++ one (codes ";")
+pub call_cut : (ws : Words) → ws ++ codes ")" ∷ one (codes ";") ≡ (ws ++ one (codes ")")) ++ one (codes ";")
 call_cut ws = sym (append_assoc ws (one (codes ")")) (one (codes ";")))
 
 pub both_same : {A : Type 0} (x y : A) (xs ys : List A) → x ≡ y → xs ≡ ys → x ∷ xs ≡ y ∷ ys
 both_same x y xs ys h g = ap (λ z. z ∷ xs) h ∙ ap (λ z. y ∷ z) g
 
-name_words : (place : ℕ) (w : List ℕ) → expression_words (at place (e.Ident w)) ≡ one w
+pub name_words : (place : ℕ) (w : List ℕ) → expression_words (at place (e.Ident w)) ≡ one w
 name_words place w =
     ap (λ f. f 0) (operand_is (at place (e.Ident w))) ∙ (ap (λ n. in_place (phrase n) 0) (node_at place (e.Ident w)) ∙ ap (λ p. in_place p 0) (ident_is w))
 
-size_words : (place : ℕ) (t : CType) → expression_words (at place (e.SizeOf t)) ≡ codes "sizeof" ∷ bracketed (type_words t)
+pub size_words : (place : ℕ) (t : CType) → expression_words (at place (e.SizeOf t)) ≡ codes "sizeof" ∷ bracketed (type_words t)
 size_words place t =
     ap (λ f. f 0) (operand_is (at place (e.SizeOf t))) ∙ (ap (λ n. in_place (phrase n) 0) (node_at place (e.SizeOf t)) ∙ ap (λ p. in_place p 0) (sizeof_is t))
 

@@ -26,16 +26,16 @@ use Rattle.vd_cparse.proofs.Starts.{put_together, append_nothing, TypeStart, sim
 use Rattle.vd_cparse.proofs.StatementsBack.{body_back}
 
 -- the tokens that are printed of what a sort says
-abbrev printed_of : (S : Sort) → Value S → Words
+abbrev pub printed_of : (S : Sort) → Value S → Words
 printed_of Parameters ps = parameter_words ps ++ one (codes ")")
 printed_of MoreParameters ps = flat_map (λ y. codes "," ∷ y) (map field_words ps) ++ one (codes ")")
 printed_of Declarations ds = flat_map declaration_words ds
 printed_of _ v = []
 
-field_cut : (ws : Words) (name : List ℕ) (xs ys : Words) → ((ws ++ one name) ++ xs) ++ ys ≡ ws ++ name ∷ (xs ++ ys)
+pub field_cut : (ws : Words) (name : List ℕ) (xs ys : Words) → ((ws ++ one name) ++ xs) ++ ys ≡ ws ++ name ∷ (xs ++ ys)
 field_cut ws name xs ys = append_assoc (ws ++ one name) xs ys ∙ append_assoc ws (one name) (xs ++ ys)
 
-function_cut : (ret : Words) (name : List ℕ) (ps ds ss end : Words) → (((ret ++ name ∷ codes "(" ∷ ps) ++ codes ")" ∷ codes "{" ∷ ds) ++ ss) ++ end
+pub function_cut : (ret : Words) (name : List ℕ) (ps ds ss end : Words) → (((ret ++ name ∷ codes "(" ∷ ps) ++ codes ")" ∷ codes "{" ∷ ds) ++ ss) ++ end
     ≡ ret ++ name ∷ codes "(" ∷ ((ps ++ one (codes ")")) ++ codes "{" ∷ (ds ++ (ss ++ end)))
 function_cut ret name ps ds ss end =
     let front = name ∷ codes "(" ∷ ps in
@@ -345,3 +345,15 @@ module _ (V : Vocabulary) where
 pub functions_read_back : FunctionsReadBack
 unfolding Shown
 functions_read_back V f ts us p a b = shown_of (Shown V) (shown_rule V) p a us b
+
+-- ---- types of parameters
+
+-- a type that does not begin with `void` is a type
+pub filled_is_type : (V : Vocabulary) {ts : List Lexeme} {t : CType} → Is grammar Filled ts t → Is grammar Type_ ts t
+unfolding Shown
+filled_is_type V p = shown_of (Shown V) (shown_rule V) p
+
+-- so is what stands behind `void`, with that word
+pub void_is_type : (V : Vocabulary) {ts : List Lexeme} {t : CType} → Is grammar VoidType ts t → (w : Lexeme) → has (c.One k.Void) w.kind ≡ true → Is grammar Type_ (w ∷ ts) t
+unfolding Shown
+void_is_type V p w h = shown_of (Shown V) (shown_rule V) p w h

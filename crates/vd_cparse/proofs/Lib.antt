@@ -7,17 +7,17 @@ pub mod Cuts
 pub mod Texts
 pub mod Values
 mod PrintedPhrases
-mod PrintedSpells
+pub mod PrintedSpells
 mod SameNodes
-mod ReadingBack
-mod Spelled
-mod Spacing
+pub mod ReadingBack
+pub mod Spelled
+pub mod Spacing
 mod Decimals
-mod SectionWords
-mod Shallowness
-mod Starts
-mod Again
-mod SameStatements
-mod CallsBack
-mod StatementsBack
-mod FunctionsBack
+pub mod SectionWords
+pub mod Shallowness
+pub mod Starts
+pub mod Again
+pub mod SameStatements
+pub mod CallsBack
+pub mod StatementsBack
+pub mod FunctionsBack

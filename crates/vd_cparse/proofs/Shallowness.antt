@@ -6,7 +6,7 @@ use Rattle.vd_base.specs.declared.ctype.CType.{CType}
 use Rattle.vd_clight.specs.declared.syntax.Expr.{Expr}
 use Rattle.vd_clight.specs.declared.syntax.ExprNode.{ExprNode}
 use Rattle.vd_clight.specs.declared.syntax.ExprNode.TheVariants as e
-use Rattle.vd_clight.specs.Printed.{Words, type_words, number_text, precedence, of_prefixes, of_suffixes, phrase, operand}
+use Rattle.vd_clight.specs.Printed.{Words, type_words, number_text, precedence, of_prefixes, of_suffixes, phrase, operand, expression_words}
 use Rattle.vd_cparse.specs.declared.depth.Depth.{Depth}
 use Rattle.vd_cparse.specs.declared.kind.Kind.{Kind}
 use Rattle.vd_cparse.specs.declared.kind.Kind.TheVariants as k
@@ -20,21 +20,21 @@ use Rattle.vd_cparse.proofs.PrintedPhrases.{in_place, operand_is, number_is, ide
 use Rattle.vd_cparse.proofs.PrintedSpells.{prefix_words, prefix_text_is, measure_words, measure_text_is, member_words, member_text_is, operator_words, operator_text_is, simple_words, simple_text_is, struct_words, pointer_words, words_of}
 
 -- the state behind an expression with so many operators
-abbrev behind : Depth → ℕ → Depth
+abbrev pub behind : Depth → ℕ → Depth
 behind d n = record { brackets = d.brackets; operators = d.operators + n; is_opened = false }
 
-record Below (d u : Depth) : Type 0 where
-  fewer_brackets : d.brackets ≤ u.brackets
-  fewer_operators : d.operators ≤ u.operators
+pub record Below (d u : Depth) : Type 0 where
+  pub fewer_brackets : d.brackets ≤ u.brackets
+  pub fewer_operators : d.operators ≤ u.operators
 
 -- the last token is `(`, where that is asked
-abbrev IsAsked : Bool → Depth → Type 0
+abbrev pub IsAsked : Bool → Depth → Type 0
 IsAsked true d = d.is_opened ≡ true
 IsAsked false d = Unit {0}
 
 -- ---- what one token counts
 
-abbrev state : ℕ → ℕ → Bool → Depth
+abbrev pub state : ℕ → ℕ → Bool → Depth
 state b o f = record { brackets = b; operators = o; is_opened = f }
 
 no_more : (b o : ℕ) → state b o false ≡ state b (o + 0) false
@@ -117,23 +117,23 @@ simple_one k.Void h b o = one_more b o
 simple_one _ h b o = cc
 
 module _ (V : Vocabulary) where
-  walked_append : (d : Depth) (xs ys : Words) → walked V d (xs ++ ys) ≡ walked V (walked V d xs) ys
+  pub walked_append : (d : Depth) (xs ys : Words) → walked V d (xs ++ ys) ≡ walked V (walked V d xs) ys
   walked_append d [] ys = refl
   walked_append d (x ∷ xs) ys = walked_append (after (V.kind_at x) d) xs ys
 
-  shallow_parts : (most : ℕ) (d : Depth) (xs ys : Words) → Shallow V most d (xs ++ ys) → Shallow V most d xs × Shallow V most (walked V d xs) ys
+  pub shallow_parts : (most : ℕ) (d : Depth) (xs ys : Words) → Shallow V most d (xs ++ ys) → Shallow V most d xs × Shallow V most (walked V d xs) ys
   shallow_parts most d [] ys h = (tt, h)
   shallow_parts most d (x ∷ xs) ys h = let p = shallow_parts most (after (V.kind_at x) d) xs ys h.1 in ((h.0, p.0), p.1)
 
-  shallow_both : (most : ℕ) (d : Depth) (xs ys : Words) → Shallow V most d xs → Shallow V most (walked V d xs) ys → Shallow V most d (xs ++ ys)
+  pub shallow_both : (most : ℕ) (d : Depth) (xs ys : Words) → Shallow V most d xs → Shallow V most (walked V d xs) ys → Shallow V most d (xs ++ ys)
   shallow_both most d [] ys h g = g
   shallow_both most d (x ∷ xs) ys h g = (h.0, shallow_both most (after (V.kind_at x) d) xs ys h.1 g)
 
   -- The first words and the second count the same, and the second are nested no more deeply, from no deeper on.
-  record Prints (asked : Bool) (ws us : Words) (count : ℕ) : Type 0 where
-    walks : (d : Depth) → IsAsked asked d → walked V d ws ≡ behind d count
-    prints : (d : Depth) → IsAsked asked d → walked V d us ≡ behind d count
-    shallow : (most : ℕ) (d u : Depth) → IsAsked asked d → IsAsked asked u → Below u d → Shallow V most d ws → Shallow V most u us
+  pub record Prints (asked : Bool) (ws us : Words) (count : ℕ) : Type 0 where
+    pub walks : (d : Depth) → IsAsked asked d → walked V d ws ≡ behind d count
+    pub prints : (d : Depth) → IsAsked asked d → walked V d us ≡ behind d count
+    pub shallow : (most : ℕ) (d u : Depth) → IsAsked asked d → IsAsked asked u → Below u d → Shallow V most d ws → Shallow V most u us
 
   below_behind : (d u : Depth) (n : ℕ) → Below u d → Below (behind u n) (behind d n)
   below_behind d u n h = record { fewer_brackets = h.fewer_brackets; fewer_operators = omega (arith, h.fewer_operators) }
@@ -273,9 +273,9 @@ module _ (V : Vocabulary) where
 
   -- ---- types and expressions
 
-  record PrintsSome (asked : Bool) (ws us : Words) : Type 0 where
-    count : ℕ
-    prints : Prints asked ws us count
+  pub record PrintsSome (asked : Bool) (ws us : Words) : Type 0 where
+    pub count : ℕ
+    pub prints : Prints asked ws us count
 
   some : {asked : Bool} {ws us xs ys : Words} {n : ℕ} → ws ≡ xs → us ≡ ys → Prints asked xs ys n → PrintsSome asked ws us
   some {asked} {ws} {us} {xs} {ys} {n} h g p = record { count = n; prints = subst (λ z. Prints asked z us n) (sym h) (subst (λ z. Prints asked xs z n) (sym g) p) }
@@ -363,6 +363,9 @@ module _ (V : Vocabulary) where
         let p = place_prints s in
         some cut refl (around n least b close xs hb hc (some refl (sym (in_words n 0 (omega arith))) p.prints)).prints
 
+-- what is printed of an expression counts the same as any words that spell it
+pub expression_prints : (V : Vocabulary) (x : Expr) (ws : Words) → Spells V 0 (node_of x) ws → PrintsSome V false ws (expression_words x)
+expression_prints V x ws s = at_operand V x 0 ws (place_prints V s)
+
 pub printed_is_shallow : PrintedIsShallow
-printed_is_shallow V x ws most d s h =
-    (at_operand V x 0 ws (place_prints V s)).prints.shallow most d d tt tt (record { fewer_brackets = omega arith; fewer_operators = omega arith }) h
+printed_is_shallow V x ws most d s h = (expression_prints V x ws s).prints.shallow most d d tt tt (record { fewer_brackets = omega arith; fewer_operators = omega arith }) h

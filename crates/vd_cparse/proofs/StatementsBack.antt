@@ -54,14 +54,14 @@ module _ (V : Vocabulary) where
       }
 
   -- an expression that begins with a name
-  name_first : {xs ys : List Lexeme} (t : Lexeme) (ps : List Postfix) (os : List (Kind × Expr)) → has c.AnyName t.kind ≡ true → Is grammar Postfixes xs ps → Is grammar Operations ys os
+  pub name_first : {xs ys : List Lexeme} (t : Lexeme) (ps : List Postfix) (os : List (Kind × Expr)) → has c.AnyName t.kind ≡ true → Is grammar Postfixes xs ps → Is grammar Operations ys os
       → Is grammar Expression (t ∷ (xs ++ ys)) (grouped (behind t.place (e.Ident t.spelling) ps) os)
   name_first {xs = xs} {ys = ys} t ps os h p q =
       put_together Rule.expression (t ∷ (xs ++ ys)) (behind t.place (e.Ident t.spelling) ps, (os, tt))
       (t ∷ xs, ys, refl, put_together Rule.name (t ∷ xs) (t, (ps, tt)) (xs, refl, h, (xs, [], sym (append-nil xs), p, refl)), (ys, [], sym (append-nil ys), q, refl))
 
   -- an expression that begins otherwise
-  other_first : {xs ys : List Lexeme} (x : Expr) (os : List (Kind × Expr)) → Is grammar Plain xs x → Is grammar Operations ys os → Is grammar Expression (xs ++ ys) (grouped x os)
+  pub other_first : {xs ys : List Lexeme} (x : Expr) (os : List (Kind × Expr)) → Is grammar Plain xs x → Is grammar Operations ys os → Is grammar Expression (xs ++ ys) (grouped x os)
   other_first {xs = xs} {ys = ys} x os p q =
       put_together Rule.expression (xs ++ ys) (x, (os, tt)) (xs, ys, refl, put_together Rule.other_operand xs (x, tt) (xs, [], sym (append-nil xs), p, refl), (ys, [], sym (append-nil ys), q, refl))
 
@@ -113,12 +113,12 @@ module _ (V : Vocabulary) where
         same = same_at_places f.token.place t.place s.Skip;
       }
 
-  jump_words : (kind : Kind) → has c.Jump kind ≡ true → (place : ℕ) → statement_words (stmt_at place (jump_of kind)) ≡ text_of kind ∷ one (codes ";")
+  pub jump_words : (kind : Kind) → has c.Jump kind ≡ true → (place : ℕ) → statement_words (stmt_at place (jump_of kind)) ≡ text_of kind ∷ one (codes ";")
   jump_words k.Break h place = words_at place s.Break _ outs-Break
   jump_words k.Continue h place = words_at place s.Continue _ outs-Continue
   jump_words _ h place = cc
 
-  jump_text : (kind : Kind) → has c.Jump kind ≡ true → has_text (text_of kind) ≡ true
+  pub jump_text : (kind : Kind) → has c.Jump kind ≡ true → has_text (text_of kind) ≡ true
   jump_text k.Break h = refl
   jump_text k.Continue h = refl
   jump_text _ h = cc

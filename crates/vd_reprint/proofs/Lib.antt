@@ -1,0 +1,10 @@
+mod Following
+mod StatementsFollow
+mod TokenShapes
+mod KnownKinds
+mod SpacedLines
+mod FunctionsFollow
+mod OwnNames
+mod Contents
+mod HeaderLines
+mod Sections
