@@ -123,7 +123,7 @@ first_of_live : (live : Bool) (cells : List Cell) (o : ℕ) → IsSome (cond liv
 first_of_live true cells o h = first_in cells o h
 first_of_live false cells o h = h
 
-first_of_block : (x : Option Block) (o : ℕ) → IsSome (cell_of x o) → IsSome (cell_of x 0)
+pub first_of_block : (x : Option Block) (o : ℕ) → IsSome (cell_of x o) → IsSome (cell_of x 0)
 first_of_block None o h = h
 first_of_block (Some x) o h = first_of_live x.is_live x.cells o h
 

@@ -2,10 +2,13 @@ pub mod Calls
 pub mod Calm
 pub mod Clashes
 pub mod Codes
+pub mod Followed
 pub mod Gives
 pub mod Globals
 pub mod Growth
 pub mod Layers
+pub mod Noted
+pub mod Places
 pub mod Rivals
 pub mod Rooms
 pub mod Runs
@@ -13,3 +16,4 @@ pub mod Spawning
 pub mod Touching
 pub mod Turns
 pub mod Walks
+pub mod Watched

@@ -1,6 +1,7 @@
 -- Runs, turn by turn.
 use Rattle.std.proofs.Common.{◌≡◌, ℕ, zero, suc, ◌+◌, ◌-◌, ◌<◌, ◌≤◌, Bool, List, [], ◌∷◌, length, get_or, take, drop, Option, Some, None, refl, sym, ◌∙◌, ap, subst, arith, ◌⊎◌, inl, inr}
-use Rattle.std.proofs.lemmas.Bool.{cases_lt}
+use Rattle.std.specs.Prelude.{IfSome, is_some, true}
+use Rattle.std.proofs.lemmas.Bool.{cases_lt, false≢true}
 use Rattle.std.proofs.lemmas.List.{length-map}
 use Rattle.vd_clight.specs.declared.program.Program.{Program}
 use Rattle.vd_machine.specs.declared.answer.Turn.{Turn}
@@ -9,15 +10,14 @@ use Rattle.vd_machine.specs.declared.answer.End.{End}
 use Rattle.vd_machine.specs.declared.answer.End.TheVariants as finish
 use Rattle.vd_machine.specs.declared.answer.Stepped.{Stepped}
 use Rattle.vd_machine.specs.declared.answer.Stepped.TheVariants as stepped
+use Rattle.vd_machine.specs.declared.watch.Watch.{Watch}
 use Rattle.vd_machine.specs.Along.{raced_after, IsRaceNow, IsNextRace, IsRaceUpTo, Along, end_by}
 use Rattle.vd_machine.specs.Machine.{Machine, started, answered, turned, turned_at, moves_to, FoundRace, FirstRace, RunsTo}
 use Rattle.vd_machine.specs.Race.{Races, LeastRace}
 use Rattle.vd_machine.specs.Run.{Turned, Next, Waiting, Resting, Finished, Failed, Last, Open, turn, run_on, run, turns_on, turns, end_of}
-use Rattle.vd_machine.specs.Rivals.{IsAlone, IsCalm}
 use Rattle.vd_machine.specs.Start.{first_system, global_block}
 use Rattle.vd_machine.specs.Thread.{System}
-use Rattle.vd_machine.proofs.Calm.{calm_after}
-use Rattle.vd_machine.proofs.Growth.{turn_keeps}
+use Rattle.vd_machine.specs.Watching.{IsStill, Watches}
 use Rattle.vd_machine.proofs.Walks.{drop_at}
 
 -- a turn leads from a state to a state
@@ -187,58 +187,32 @@ pub race_first :
     (p : Program) (xs : List Turn) (w : Machine) (now : Option (ℕ × ℕ × ℕ × Spot)) → Along p xs 0 w → IsRaceNow w 0 now → IsRaceUpTo p xs 0 now
 race_first p xs w now g e = subst (λ r. IsRaceUpTo p xs 0 r) (sym e.2) (found_up_to p xs 0 w e.0 g.program g.finish g.front (λ j s l h r. omega arith) e.1)
 
--- a state that a turn leaves or that is calm has no race where the state before has none
-calm_leads :
-    (p : Program) (n : ℕ) (pick : Bool) (r : Turned) (s s' : System) (blocks : ℕ) → r ≡ turn p n pick s → LeadsTo r s s' → blocks ≤ length s.memory → (Races p.globals s → ⊥) →
-    IsAlone p.globals s' n blocks → (length s.threads < length s'.threads → IsAlone p.globals s' (length s.threads) blocks) → Races p.globals s' → ⊥
-calm_leads p n pick (Next t) s s' blocks e h few none alone new =
-    calm_after p n pick s s' blocks (ap (λ x. Next x) h ∙ e) few none alone new
-calm_leads p n pick Waiting s s' blocks e h few none alone new = λ r. none (subst (λ x. Races p.globals x) h r)
-calm_leads p n pick Resting s s' blocks e h few none alone new = λ r. none (subst (λ x. Races p.globals x) h r)
-calm_leads p n pick (Finished v) s s' blocks e h few none alone new = λ r. h
-calm_leads p n pick (Failed c) s s' blocks e h few none alone new = λ r. h
-
--- the state of a machine that goes on
-leads :
-    (p : Program) (xs : List Turn) (i : ℕ) (w w' : Machine) (x : Turn) (a : Stepped) → (a, w') ≡ turned w x.thread x.pick → end_by a ≡ None → Along p xs i w →
-    LeadsTo (turn p x.thread x.pick w.system) w.system w'.system
-leads p xs i w w' x a h none g =
-    (of_answer (turn p x.thread x.pick w.system) x.thread a w w' (open_turned p w w' a x.thread x.pick g.program g.finish h) none).0
-
-keeps_blocks : (p : Program) (n : ℕ) (pick : Bool) (r : Turned) (s s' : System) → r ≡ turn p n pick s → LeadsTo r s s' → length s.memory ≤ length s'.memory
-keeps_blocks p n pick (Next t) s s' e h = turn_keeps p n pick s s' (ap (λ x. Next x) h ∙ e)
-keeps_blocks p n pick Waiting s s' e h = let k : length s'.memory ≡ length s.memory = ap (λ x. length x.memory) h in omega arith
-keeps_blocks p n pick Resting s s' e h = let k : length s'.memory ≡ length s.memory = ap (λ x. length x.memory) h in omega arith
-keeps_blocks p n pick (Finished v) s s' e h = absurd h
-keeps_blocks p n pick (Failed c) s s' e h = absurd h
-
--- no block goes
-pub blocks_stay :
-    (p : Program) (xs : List Turn) (i : ℕ) (w w' : Machine) (x : Turn) (a : Stepped) → (a, w') ≡ turned w x.thread x.pick → end_by a ≡ None → Along p xs i w →
-    length w.system.memory ≤ length w'.system.memory
-blocks_stay p xs i w w' x a h none g = keeps_blocks p x.thread x.pick (turn p x.thread x.pick w.system) w.system w'.system refl (leads p xs i w w' x a h none g)
-
 -- there are blocks for the globals
 pub blocks_first : (p : Program) (w : Machine) → w ≡ started p → length w.system.memory ≡ length p.globals
 blocks_first p w e = ap (λ x. length x.system.memory) e ∙ length-map p.globals (global_block p.globals)
 
+-- an index that stays shows that no race came
+pub still_by :
+    (p : Program) (w w' : Machine) (o : Option Watch) → w.program ≡ p → w'.program ≡ p → IfSome o (IsStill w w') → is_some o ≡ true → (Races p.globals w.system → ⊥) →
+    Races p.globals w'.system → ⊥
+still_by p w w' None e f h k none r = false≢true k
+still_by p w w' (Some v) e f h k none r =
+    h.calm (λ q. none (subst (λ y. Races y.globals w.system) e q)) (subst (λ y. Races y.globals w'.system) (sym f) r)
+
+pub watches_by : (w w' : Machine) (o : Option Watch) → IfSome o (IsStill w w') → IfSome o (Watches w'.program.globals w'.system)
+watches_by w w' None h = tt
+watches_by w w' (Some v) h = h.watches
+
 pub race_more :
-    (p : Program) (xs : List Turn) (i : ℕ) (w w' : Machine) (x : Turn) (a : Stepped) (new blocks : ℕ) (race now : Option (ℕ × ℕ × ℕ × Spot)) →
-    (a, w') ≡ turned w x.thread x.pick → end_by a ≡ None → Along p xs i w → Along p xs (i + 1) w' → new ≡ length w.system.threads → blocks ≤ length w.system.memory →
-    IsRaceUpTo p xs i race → IsNextRace w' x.thread new blocks (i + 1) race now → IsRaceUpTo p xs (i + 1) now
-race_more p xs i w w' x a new blocks None now h none before g count few r (inl e) =
-    let calm : IsCalm w' x.thread (length w.system.threads) blocks = subst (λ n. IsCalm w' x.thread n blocks) count e.0 in
-    let alone : IsAlone p.globals w'.system x.thread blocks = subst (λ q. IsAlone q.globals w'.system x.thread blocks) g.program calm.0 in
-    let fresh : length w.system.threads < length w'.system.threads → IsAlone p.globals w'.system (length w.system.threads) blocks =
-    λ l. subst (λ q. IsAlone q.globals w'.system (length w.system.threads) blocks) g.program (calm.1 l) in
+    (p : Program) (xs : List Turn) (i : ℕ) (w w' : Machine) (watched : Bool) (race now : Option (ℕ × ℕ × ℕ × Spot)) → Along p xs i w → Along p xs (i + 1) w' →
+    (watched ≡ true → (Races p.globals w.system → ⊥) → Races p.globals w'.system → ⊥) → IsRaceUpTo p xs i race → IsNextRace w' watched (i + 1) race now → IsRaceUpTo p xs (i + 1) now
+race_more p xs i w w' watched None now before g still r (inl e) =
     let quiet : Races p.globals w.system → ⊥ = r i w.system (omega arith) before.front in
-    let still : Races p.globals w'.system → ⊥ =
-    calm_leads p x.thread x.pick (turn p x.thread x.pick w.system) w.system w'.system blocks refl (leads p xs i w w' x a h none before) few quiet alone fresh in
     subst (λ y. IsRaceUpTo p xs (i + 1) y) (sym e.1)
-    (up_to_more p xs (i + 1) w' g.program g.front (λ j s l k q. r j s (omega arith) k q) (λ q. still (subst (λ y. Races y.globals w'.system) g.program q)))
-race_more p xs i w w' x a new blocks None now h none before g count few r (inr e) =
+    (up_to_more p xs (i + 1) w' g.program g.front (λ j s l k q. r j s (omega arith) k q) (λ q. still e.0 quiet (subst (λ y. Races y.globals w'.system) g.program q)))
+race_more p xs i w w' watched None now before g still r (inr e) =
     subst (λ y. IsRaceUpTo p xs (i + 1) y) (sym e.2) (found_up_to p xs (i + 1) w' e.0 g.program g.finish g.front (λ j s l k q. r j s (omega arith) k q) e.1)
-race_more p xs i w w' x a new blocks (Some (j, n, k, spot)) now h none before g count few r e =
+race_more p xs i w w' watched (Some (j, n, k, spot)) now before g still r e =
     let l = r.1 in subst (λ y. IsRaceUpTo p xs (i + 1) y) (sym e) (r.0, omega arith, r.2)
 
 drop-end : (xs : List Turn) (i : ℕ) → length xs ≤ i → drop i xs ≡ []

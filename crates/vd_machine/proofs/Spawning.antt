@@ -88,9 +88,9 @@ pub forked_spawns : (p : Program) (pick : Bool) (t : Thread) (m m' : List Block)
 forked_spawns p pick Ended m m' th new e = subst (λ st. OnlyIf false st) (sym e) tt
 forked_spawns p pick (Running fr cs) m m' th new e = subst (λ st. OnlyIf (is_spawn (next fr).statement) st) (sym e) (of_act p pick (next fr).statement (next fr).frame cs m)
 
--- at most one thread more, and the others as they were
+-- at most one thread more and none less, and the others as they were
 abbrev OneMore : List Thread → ℕ → List Thread → Type 0
-OneMore ts n us = (length us ≤ length ts + 1) × ((j : ℕ) → (j ≡ n → ⊥) → j < length ts → slice_get us j ≡ slice_get ts j)
+OneMore ts n us = (length us ≤ length ts + 1) × ((length ts ≤ length us) × ((j : ℕ) → (j ≡ n → ⊥) → j < length ts → slice_get us j ≡ slice_get ts j))
 
 abbrev MoreThreads : List Thread → ℕ → Turned → Type 0
 MoreThreads ts n (Next s) = OneMore ts n s.threads
@@ -99,26 +99,26 @@ MoreThreads ts n Resting = Unit {0}
 MoreThreads ts n (Finished v) = Unit {0}
 MoreThreads ts n (Failed c) = Unit {0}
 
-get_set : (ts : List Thread) (n j : ℕ) (t : Thread) → (j ≡ n → ⊥) → slice_get (slice_set ts n t) j ≡ slice_get ts j
+pub get_set : {A : Type 0} (ts : List A) (n j : ℕ) (t : A) → (j ≡ n → ⊥) → slice_get (slice_set ts n t) j ≡ slice_get ts j
 get_set [] n j t ne = refl
 get_set (x ∷ ts) zero zero t ne = absurd (ne refl)
 get_set (x ∷ ts) zero (suc j) t ne = refl
 get_set (x ∷ ts) (suc n) zero t ne = refl
 get_set (x ∷ ts) (suc n) (suc j) t ne = get_set ts n j t (λ e. ne (ap suc e))
 
-get_front : (ts us : List Thread) (j : ℕ) → j < length ts → slice_get (ts ++ us) j ≡ slice_get ts j
+pub get_front : {A : Type 0} (ts us : List A) (j : ℕ) → j < length ts → slice_get (ts ++ us) j ≡ slice_get ts j
 get_front [] us j l = absurd (omega arith)
 get_front (x ∷ ts) us zero l = refl
 get_front (x ∷ ts) us (suc j) l = get_front ts us j (omega arith)
 
 of_set : (ts : List Thread) (n : ℕ) (t : Thread) → OneMore ts n (slice_set ts n t)
-of_set ts n t = let h : length (slice_set ts n t) ≡ length ts = length-set ts n t in (omega arith, λ j ne l. get_set ts n j t ne)
+of_set ts n t = let h : length (slice_set ts n t) ≡ length ts = length-set ts n t in (omega arith, (omega arith, λ j ne l. get_set ts n j t ne))
 
 of_added : (ts : List Thread) (n : ℕ) (t new : Thread) → OneMore ts n (slice_set ts n t ++ new ∷ [])
 of_added ts n t new =
     let h : length (slice_set ts n t) ≡ length ts = length-set ts n t in
     let k : length (slice_set ts n t ++ new ∷ []) ≡ length (slice_set ts n t) + 1 = length-append (slice_set ts n t) (new ∷ []) in
-    (omega arith, λ j ne l. get_front (slice_set ts n t) (new ∷ []) j (omega arith) ∙ get_set ts n j t ne)
+    (omega arith, (omega arith, λ j ne l. get_front (slice_set ts n t) (new ∷ []) j (omega arith) ∙ get_set ts n j t ne))
 
 of_end : (n : ℕ) (v : Value) (s : System) → MoreThreads s.threads n (at_end n v s)
 of_end zero v s = tt
@@ -147,7 +147,11 @@ turn_threads p n pick s s' e = (turned_threads p n pick s s' e).0
 pub turn_others :
     (p : Program) (n : ℕ) (pick : Bool) (s s' : System) → Next s' ≡ turn p n pick s → (j : ℕ) → (j ≡ n → ⊥) → j < length s.threads →
     slice_get s'.threads j ≡ slice_get s.threads j
-turn_others p n pick s s' e = (turned_threads p n pick s s' e).1
+turn_others p n pick s s' e = (turned_threads p n pick s s' e).1.1
+
+-- none goes
+pub threads_stay : (p : Program) (n : ℕ) (pick : Bool) (s s' : System) → Next s' ≡ turn p n pick s → length s.threads ≤ length s'.threads
+threads_stay p n pick s s' e = (turned_threads p n pick s s' e).1.0
 
 statement_spawns : (s : TStmt-F TStmt) → takes_memory s ≡ false → is_spawn s ≡ false
 statement_spawns statement.Skip h = refl

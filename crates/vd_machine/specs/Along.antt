@@ -1,5 +1,5 @@
 -- A run that has gone on for some turns.
-use Rattle.std.specs.Prelude.{◌≡◌, ◌⊎◌, ℕ, ◌+◌, ◌≤◌, List, take, drop, length, Option, None, Some}
+use Rattle.std.specs.Prelude.{◌≡◌, ◌⊎◌, ℕ, Bool, true, ◌+◌, ◌≤◌, List, take, drop, length, Option, None, Some}
 use Rattle.vd_clight.specs.declared.program.Program.{Program}
 use Rattle.vd_machine.specs.declared.answer.Turn.{Turn}
 use Rattle.vd_machine.specs.declared.answer.Spot.{Spot}
@@ -9,7 +9,6 @@ use Rattle.vd_machine.specs.declared.answer.Stepped.{Stepped}
 use Rattle.vd_machine.specs.declared.answer.Stepped.TheVariants as stepped
 use Rattle.vd_machine.specs.Machine.{Machine, FoundRace, NoRaceBefore}
 use Rattle.vd_machine.specs.Race.{Races, LeastRace}
-use Rattle.vd_machine.specs.Rivals.{IsCalm}
 use Rattle.vd_machine.specs.Run.{Open, run, turns}
 use Rattle.vd_machine.specs.Start.{first_system}
 use Rattle.vd_machine.specs.Thread.{System}
@@ -23,10 +22,10 @@ raced_after i (Some (n, k, p)) = Some (i, n, k, p)
 abbrev pub IsRaceNow : Machine → ℕ → Option (ℕ × ℕ × ℕ × Spot) → Type 0
 IsRaceNow w i now = (found : Option (ℕ × ℕ × Spot)) × FoundRace w found × (now ≡ raced_after i found)
 
--- an earlier race stays; else there is none where the threads that changed are alone, or the state is looked at
-abbrev pub IsNextRace : Machine → ℕ → ℕ → ℕ → ℕ → Option (ℕ × ℕ × ℕ × Spot) → Option (ℕ × ℕ × ℕ × Spot) → Type 0
-IsNextRace w n new blocks i (Some before) now = now ≡ Some before
-IsNextRace w n new blocks i None now = (IsCalm w n new blocks × (now ≡ None)) ⊎ IsRaceNow w i now
+-- an earlier race stays; else there is none where the index shows it, or the state is looked at
+abbrev pub IsNextRace : Machine → Bool → ℕ → Option (ℕ × ℕ × ℕ × Spot) → Option (ℕ × ℕ × ℕ × Spot) → Type 0
+IsNextRace w watched i (Some before) now = now ≡ Some before
+IsNextRace w watched i None now = ((watched ≡ true) × (now ≡ None)) ⊎ IsRaceNow w i now
 
 -- the first race among the first i states after the start state, and that
 abbrev pub IsRaceUpTo : Program → List Turn → ℕ → Option (ℕ × ℕ × ℕ × Spot) → Type 0

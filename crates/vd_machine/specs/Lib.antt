@@ -18,3 +18,4 @@ pub mod Step
 pub mod Thread
 pub mod Touches
 pub mod Turns
+pub mod Watching

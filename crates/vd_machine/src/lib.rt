@@ -14,6 +14,7 @@ mod statement;
 mod tests;
 mod touch;
 mod turn;
+mod watch;
 mod word;
 
 pub use answer::{Cause, End, Outcome, Spot, Stepped, Turn};

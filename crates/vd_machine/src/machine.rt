@@ -1,17 +1,20 @@
 //! The machine.
-ghost use Rattle.std.specs.Prelude.{◌≡◌, ◌<◌, ◌≤◌, ◌+◌, ◌^◌, ◌++◌, ◌∷◌, [], length, map, min, max, false, is_some, IsTrue, IfOk, IsOk, OnOk, OnErr};
+ghost use Rattle.std.specs.Prelude.{◌≡◌, ◌<◌, ◌≤◌, ◌+◌, ◌^◌, ◌++◌, ◌∷◌, [], length, map, min, max, false, is_some, IfSome, IfOk, IsOk, OnOk, OnErr};
 ghost use Rattle.vd_machine.specs.Allocation.{turn_takes_memory};
 ghost use Rattle.vd_mem.specs.Memory.{cell_at};
-ghost use Rattle.vd_machine.specs.Rivals.{IsCalm};
 ghost use Rattle.vd_machine.specs.Room.{depth, depth_of, function_depth};
 ghost use Rattle.vd_machine.specs.Machine.{started, turned, FoundRace};
 ghost use Rattle.vd_machine.specs.Start.{first_memory, global_block, init_value};
+ghost use Rattle.vd_machine.specs.Touches.{nothing};
+ghost use Rattle.vd_machine.specs.Watching.{touch_in, IsIndex, Enters, Joins, Follows, Followed};
 
 use crate::answer::{End, Spot, Stepped};
 use crate::evaluate::global;
 use crate::frame::{Thread, entry};
-use crate::rival::{is_alone, rivals};
+use crate::rival::{rivals, touch_of};
+use crate::touch::{live, reaches};
 use crate::turn::{Turned, turn};
+use crate::watch::Watch;
 use std::alloc::{AllocError, Global};
 use std::marker::Model;
 use vd_clight::{GlobalDef, Init, Program, TStmt};
@@ -239,34 +242,67 @@ impl<'p> Machine<'p> {
         }
     }
 
-    /// How many threads there are, ended ones too.
-    pub(crate) fn threads(&self) -> u32
-        ensures { result ≡ length self.now.system.threads }
+    /// How many blocks there are, where a number of them is known and a turn made one at most since.
+    fn more_blocks(&self, blocks: u32) -> u32
+        requires { blocks ≤ length self.now.system.memory }
+        ensures least { blocks ≤ result }
+        ensures most { result ≤ length self.now.system.memory }
     {
-        self.threads.len() as u32
+        if self.memory.cell(blocks, 0).is_some() {
+            blocks.saturating_add(1)
+        } else {
+            blocks
+        }
     }
 
-    /// Whether the block of a number is there and live.
-    pub(crate) fn has_block(&self, block: u32) -> bool
-        ensures { result ≡ is_some (cell_at self.now.system.memory block 0) }
-    {
-        self.memory.cell(block, 0).is_some()
-    }
-
-    /// Whether no thread races with one that made a turn, nor with the new one of the number, and none of the others
-    /// touches a block from a number on.
-    pub(crate) fn is_calm(&self, thread: u32, new: u32, blocks: u32) -> bool
-        ensures { IsTrue result → IsCalm self.now thread new blocks }
+    /// The index with the touch of a thread that it lacks. None where it races with one there, or where it reaches past
+    /// the blocks that there are, since a race could then come of a turn of another thread.
+    fn enter(&self, watch: Watch, thread: u32) -> Result<Option<Watch>, AllocError>
+        requires index { IsIndex watch }
+        requires at { thread ≤ length watch.touches.items }
+        requires free { touch_in watch.touches.items thread ≡ nothing }
+        ensures { IfOk result (λ r. IfSome r (Enters self.now.program.globals self.now.system watch thread)) }
     {
         let globals = self.program.globals.as_slice();
-        let threads = self.threads.as_slice();
-        if !is_alone(globals, threads, &self.memory, thread as usize, blocks) {
-            return false;
+        let touched = touch_of(globals, self.threads.as_slice(), thread as usize);
+        if reaches(touched, watch.blocks) {
+            return Ok(None);
         }
-        if new as usize >= threads.len() {
-            return true;
+        if watch.meets(live(&self.memory, touched)) {
+            return Ok(None);
         }
-        is_alone(globals, threads, &self.memory, new as usize, blocks)
+        Ok(Some(watch.with(thread, touched)?))
+    }
+
+    /// The index with the next thread, where there is one.
+    pub(crate) fn join(&self, watch: Watch) -> Result<Option<Watch>, AllocError>
+        requires { IsIndex watch }
+        ensures { IfOk result (λ r. IfSome r (Joins self.now.program.globals self.now.system watch)) }
+    {
+        let count = watch.touches.len();
+        if count >= self.threads.len() {
+            return Ok(Some(watch));
+        }
+        self.enter(watch, count as u32)
+    }
+
+    /// The index after a turn of a thread. None where a thread that changed may race.
+    pub(crate) fn follow(&self, watch: Watch, thread: u32) -> Result<Option<Watch>, AllocError>
+        requires { Follows self.now.program.globals self.now.system watch thread }
+        ensures { IfOk result (λ r. IfSome r (Followed self.now.program.globals self.now.system watch thread)) }
+    {
+        if thread as usize >= watch.touches.len() {
+            return Ok(None);
+        }
+        let blocks = self.more_blocks(watch.blocks);
+        let joined = self.join(watch.without(thread, blocks))?;
+        match joined {
+            Some(watch) => {
+                let followed = self.enter(watch, thread)?;
+                Ok(followed)
+            }
+            None => Ok(None),
+        }
     }
 
     /// How many steps were made. Each global counts as one.

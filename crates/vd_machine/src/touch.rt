@@ -4,6 +4,7 @@ ghost use Rattle.vd_clight.specs.declared.typed.TStmt.{out-TStmt};
 ghost use Rattle.vd_machine.specs.Frames.{IsSettled};
 ghost use Rattle.vd_machine.specs.Kept.{slot_of, thread_of};
 ghost use Rattle.vd_machine.specs.Room.{IsReadySlot};
+ghost use Rattle.vd_machine.specs.Watching.{spot_reaches, block_reaches, reaches, live_spot, live_block, live};
 ghost use Rattle.vd_machine.specs.Touches.{spot_of, block_of, nothing, at_spot, test_touch, statement_touch, thread_touch, is_at, is_in, covers, meet, block_meet, is_before, lesser, common, clash};
 
 use crate::answer::{Cause, Spot};
@@ -54,7 +55,7 @@ fn at_spot(writes: bool, spot: Option<Spot>) -> Touched
     }
 }
 
-fn block(spot: Option<Spot>) -> Option<u32>
+pub(crate) fn block(spot: Option<Spot>) -> Option<u32>
     ensures { result ≡ block_of spot }
 {
     match spot {
@@ -230,5 +231,73 @@ pub(crate) fn clash(memory: &Memory, a: Touched, b: Touched) -> Option<Spot>
         common(memory, a, b)
     } else {
         None
+    }
+}
+
+fn spot_reaches(spot: Option<Spot>, number: u32) -> bool
+    ensures { result ≡ spot_reaches spot number }
+{
+    match spot {
+        Some(spot) => number <= spot.block,
+        None => false,
+    }
+}
+
+fn block_reaches(block: Option<u32>, number: u32) -> bool
+    ensures { result ≡ block_reaches block number }
+{
+    match block {
+        Some(block) => number <= block,
+        None => false,
+    }
+}
+
+/// Whether a block from a number on is touched.
+pub(crate) fn reaches(touched: Touched, number: u32) -> bool
+    ensures { result ≡ reaches touched number }
+{
+    spot_reaches(touched.first, number)
+        || (spot_reaches(touched.second, number) || block_reaches(touched.block, number))
+}
+
+fn live_spot(memory: &Memory, spot: Option<Spot>) -> Option<Spot>
+    ensures { result ≡ live_spot memory.now spot }
+{
+    match spot {
+        Some(spot) => {
+            if memory.cell(spot.block, spot.offset).is_some() {
+                Some(spot)
+            } else {
+                None
+            }
+        }
+        None => None,
+    }
+}
+
+fn live_block(memory: &Memory, block: Option<u32>) -> Option<u32>
+    ensures { result ≡ live_block memory.now block }
+{
+    match block {
+        Some(block) => {
+            if memory.cell(block, 0).is_some() {
+                Some(block)
+            } else {
+                None
+            }
+        }
+        None => None,
+    }
+}
+
+/// The part of a touch that is at live cells.
+pub(crate) fn live(memory: &Memory, touched: Touched) -> Touched
+    ensures { result ≡ live memory.now touched }
+{
+    Touched {
+        first: live_spot(memory, touched.first),
+        second: live_spot(memory, touched.second),
+        block: live_block(memory, touched.block),
+        writes: touched.writes,
     }
 }
