@@ -294,8 +294,8 @@ impl<'p> Machine<'p> {
         if thread as usize >= watch.touches.len() {
             return Ok(None);
         }
-        let blocks = self.more_blocks(watch.blocks);
-        let joined = self.join(watch.without(thread, blocks))?;
+        let known = self.more_blocks(watch.blocks);
+        let joined = self.join(watch.without(thread, known))?;
         match joined {
             Some(watch) => {
                 let followed = self.enter(watch, thread)?;

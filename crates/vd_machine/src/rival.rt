@@ -52,11 +52,7 @@ pub(crate) fn rivals(
 }
 
 /// What the next statement of the thread of a number touches.
-pub(crate) fn touch_of(
-    globals: &[GlobalDef],
-    threads: &[Option<Thread>],
-    number: usize,
-) -> Touched
+pub(crate) fn touch_of(globals: &[GlobalDef], threads: &[Option<Thread>], number: usize) -> Touched
     requires globals { length globals.now < 2 ^ 30 }
     requires ready { AreReady threads.now }
     ensures { (m : List Block) → result ≡ touch_at globals.now (system_of threads.now m) number }

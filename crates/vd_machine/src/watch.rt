@@ -98,11 +98,7 @@ fn put_both(
     put(set, both.1, thread)
 }
 
-fn take_both(
-    set: &mut BTreeSet<(u32, u32, u32)>,
-    both: (Option<Spot>, Option<Spot>),
-    thread: u32,
-)
+fn take_both(set: &mut BTreeSet<(u32, u32, u32)>, both: (Option<Spot>, Option<Spot>), thread: u32)
     ensures { (b o k : ℕ) → has set.new b o k ≡ (not (is_either both b o && (thread == k)) && has set.old b o k) }
 {
     take(set, both.0, thread);
@@ -207,10 +203,8 @@ impl Watch {
     /// Whether some thread is at a place of a touch, one of both writing.
     fn meets_spots(&self, touched: Touched) -> bool
         requires { IsIndex self.now }
-        ensures {
-            IsFalse result → (k b o : ℕ) → is_either (spots touched) b o ≡ true → is_either (spots (touch_in self.now.touches.items k)) b o ≡ true
-                → (touched.writes || (touch_in self.now.touches.items k).writes) ≡ true → ⊥
-        }
+        ensures { IsFalse result → (k b o : ℕ) → is_either (spots touched) b o ≡ true → is_either (spots (touch_in self.now.touches.items k)) b o ≡ true
+            → (touched.writes || (touch_in self.now.touches.items k).writes) ≡ true → ⊥ }
     {
         if is_either_met(&self.written, spots(touched)) {
             return true;

@@ -9,7 +9,7 @@ returns-in_ok-followed-in-Some c =
     let n = c.args.thread in
     let l : n < length v.touches.items = search rules in
     let known = c.without.ensures.known in
-    let least : v.blocks ≤ c.without.result.blocks = let h = c.more_blocks-blocks.ensures.least in omega arith in
-    let most : c.without.result.blocks ≤ length s.memory = let h = c.more_blocks-blocks.ensures.most in omega arith in
+    let least : v.blocks ≤ c.without.result.blocks = let h = c.more_blocks-known.ensures.least in omega arith in
+    let most : c.without.result.blocks ≤ length s.memory = let h = c.more_blocks-known.ensures.most in omega arith in
     followed_if c.args.self.now.program.globals s v c.without.result c.in_ok-joined.joined c.in_ok-followed-in-Some.followed c.in-Some.watch n c.requires l c.without.ensures.added least most
     c.in_ok-joined.ensures c.in-Some.is c.in_ok-followed-in-Some.ensures
