@@ -7,9 +7,8 @@ use Rattle.vd_ctyping.specs.declared.checked.Checked.{Checked}
 use Rattle.vd_ctyping.specs.declared.found.Found.{Found}
 use Rattle.vd_ctyping.specs.Checked.{fine, follows, pair}
 use Rattle.vd_ctyping.specs.Environment.{Environment}
-use Rattle.vd_ctyping.specs.Found.{operand_of}
-use Rattle.vd_ctyping.specs.Operation.{judge_unary, judge_binary, judge_cast}
-use Rattle.vd_ctyping.specs.Place.{number, variable, sized, aligned, dot, arrow, element, pointed, address}
+use Rattle.vd_ctyping.specs.Operation.{integer_of, judge_unary, judge_binary, judge_cast}
+use Rattle.vd_ctyping.specs.Place.{number, variable, sized, aligned, dot, arrow, pointer_of, elements_of, element, pointed, address}
 
 -- what an expression at a place denotes, over its parts
 abbrev pub judge_node : Environment → ExprNode-F (ℕ → Checked Found) (Checked Found) → ℕ → Checked Found
@@ -21,9 +20,9 @@ judge_node env (node.Cast t a) place = judge_cast place t a
 judge_node env (node.SizeOf t) place = sized env.structs place t
 judge_node env (node.AlignOf t) place = aligned env.structs place t
 judge_node env (node.Field a f) place = follows a (dot env.structs place f)
-judge_node env (node.Arrow a f) place = follows (operand_of a) (arrow env.structs place f)
-judge_node env (node.Index a i) place = follows (pair (operand_of a) (operand_of i)) (element env.structs place)
-judge_node env (node.Deref a) place = follows (operand_of a) (pointed place)
+judge_node env (node.Arrow a f) place = follows (pointer_of a) (arrow env.structs place f)
+judge_node env (node.Index a i) place = follows (pair (elements_of env.structs a) (integer_of i)) (element place)
+judge_node env (node.Deref a) place = follows (pointer_of a) (pointed place)
 judge_node env (node.AddressOf a) place = follows a (address place)
 
 abbrev pub judge_layer : Expr-F (ℕ → Checked Found) (Checked Found) → Checked Found

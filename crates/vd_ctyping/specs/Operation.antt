@@ -12,33 +12,41 @@ use Rattle.vd_clight.specs.declared.typed.TExpr.{TExpr, Unary, Binary}
 use Rattle.vd_ctyping.specs.declared.fault.TypeFault.{TypeFault}
 use Rattle.vd_ctyping.specs.declared.fault.TypeFault.TheVariants as fault
 use Rattle.vd_ctyping.specs.declared.checked.Checked.{Checked}
+use Rattle.vd_ctyping.specs.declared.checked.Checked.TheVariants.{Untyped}
+use Rattle.vd_ctyping.specs.declared.operation.Class.{Class}
+use Rattle.vd_ctyping.specs.declared.operation.Class.TheVariants as class
 use Rattle.vd_ctyping.specs.declared.found.Form.TheVariants as form
 use Rattle.vd_ctyping.specs.declared.found.Found.{Found}
 use Rattle.vd_ctyping.specs.declared.found.Operand.{Operand}
 use Rattle.vd_ctyping.specs.declared.found.Condition.{Condition}
-use Rattle.vd_ctyping.specs.Fault.{first}
 use Rattle.vd_ctyping.specs.Checked.{fine, unless, follows, pair}
 use Rattle.vd_ctyping.specs.Found.{operand_of, condition_of}
 use Rattle.vd_ctyping.specs.Types.{is_integer, is_scalar, is_unsigned, converts, castable, kind_of}
 
--- ---- what operands have to be
+-- ---- what operands have to be; each disagrees for itself, whatever the other one is
 
-abbrev pub wants_integer : Operand → Option TypeFault
-wants_integer o = cond (is_integer o.typ) None (Some (fault.Mismatch o.place Void o.typ))
+abbrev pub as_integer : Operand → Checked Operand
+as_integer o = cond (is_integer o.typ) (fine o) (Untyped (fault.Mismatch o.place Void o.typ))
 
-abbrev pub wants_integers : Operand → Operand → Option TypeFault
-wants_integers a b = first (wants_integer a) (wants_integer b)
+abbrev pub as_unsigned : Operand → Checked Operand
+as_unsigned o = cond (is_unsigned o.typ) (fine o) (Untyped (fault.Mismatch o.place Unsigned o.typ))
 
-abbrev pub wants_unsigned : Operand → Option TypeFault
-wants_unsigned o = cond (is_unsigned o.typ) None (Some (fault.Mismatch o.place Unsigned o.typ))
+-- an integer or a pointer
+abbrev pub as_scalar : Operand → Checked Operand
+as_scalar o = cond (is_scalar o.typ) (fine o) (Untyped (fault.Mismatch o.place Void o.typ))
 
--- operands of a bit operation are integers, one of them unsigned
+abbrev pub integer_of : Checked Found → Checked Operand
+integer_of part = follows (operand_of part) as_integer
+
+abbrev pub unsigned_of : Checked Found → Checked Operand
+unsigned_of part = follows (operand_of part) as_unsigned
+
+abbrev pub scalar_of : Checked Found → Checked Operand
+scalar_of part = follows (operand_of part) as_scalar
+
+-- of two integers in a bit operation one is unsigned, else the first disagrees
 abbrev pub wants_bits : Operand → Operand → Option TypeFault
-wants_bits a b = cond (is_integer a.typ && is_integer b.typ) (cond (is_unsigned b.typ) None (wants_unsigned a)) (wants_integers a b)
-
--- what is shifted is unsigned, and the count is either
-abbrev pub wants_shift : Operand → Operand → Option TypeFault
-wants_shift a b = first (wants_unsigned a) (wants_integer b)
+wants_bits a b = cond (is_unsigned a.typ || is_unsigned b.typ) None (Some (fault.Mismatch a.place Unsigned a.typ))
 
 -- a value that has to convert to a type
 abbrev pub wants : CType → Operand → Option TypeFault
@@ -51,12 +59,9 @@ wants_cast t o = cond (castable o.zero o.typ t) None (Some (fault.Mismatch o.pla
 abbrev pub comparable : Operand → Operand → Bool
 comparable a b = converts a.zero a.typ b.typ || converts b.zero b.typ a.typ
 
--- where two values disagree with each other the later one has the fault, unless the first can be compared with none
+-- where two values disagree with each other the later one has the fault
 abbrev pub wants_alike : Operand → Operand → Option TypeFault
-wants_alike a b =
-    if comparable a b then None
-    else if is_scalar a.typ then Some (fault.Mismatch b.place a.typ b.typ)
-    else Some (fault.Mismatch a.place Void a.typ)
+wants_alike a b = cond (comparable a b) None (Some (fault.Mismatch b.place a.typ b.typ))
 
 -- ---- one operand
 
@@ -64,10 +69,10 @@ abbrev pub computed : ℕ → CType → TExpr → Found
 computed place typ e = record { place = place; typ = typ; form = form.Value e }
 
 abbrev pub opposite : ℕ → Operand → Checked Found
-opposite place o = unless (wants_integer o) (computed place o.typ (Unary prefix.Minus (kind_of o.typ) o.value))
+opposite place o = fine (computed place o.typ (Unary prefix.Minus (kind_of o.typ) o.value))
 
 abbrev pub complement : ℕ → Operand → Checked Found
-complement place o = unless (wants_unsigned o) (computed place Unsigned (Unary prefix.Invert kind.Unsigned o.value))
+complement place o = fine (computed place Unsigned (Unary prefix.Invert kind.Unsigned o.value))
 
 -- `!` of a pointer test is a pointer test
 abbrev pub negation_by : ℕ → ℕ → Cond → Checked Found
@@ -78,9 +83,9 @@ abbrev pub negation : ℕ → Condition → Checked Found
 negation place c = negation_by place c.place c.test
 
 abbrev pub judge_unary : UnOp → ℕ → Checked Found → Checked Found
-judge_unary prefix.Minus place part = follows (operand_of part) (opposite place)
+judge_unary prefix.Minus place part = follows (integer_of part) (opposite place)
 judge_unary prefix.Not place part = follows (condition_of part) (negation place)
-judge_unary prefix.Invert place part = follows (operand_of part) (complement place)
+judge_unary prefix.Invert place part = follows (unsigned_of part) (complement place)
 
 -- ---- two operands
 
@@ -88,44 +93,66 @@ judge_unary prefix.Invert place part = follows (operand_of part) (complement pla
 abbrev pub common : Operand → Operand → CType
 common a b = cond (is_unsigned a.typ || is_unsigned b.typ) Unsigned Int
 
-abbrev pub arithmetic : BinOp → ℕ → Operand → Operand → Checked Found
-arithmetic o place a b = unless (wants_integers a b) (computed place (common a b) (Binary o (kind_of (common a b)) a.value b.value))
+abbrev pub arithmetic : BinOp → ℕ → Operand × Operand → Checked Found
+arithmetic o place p = fine (computed place (common p.0 p.1) (Binary o (kind_of (common p.0 p.1)) p.0.value p.1.value))
 
-abbrev pub bitwise : BinOp → ℕ → Operand → Operand → Checked Found
-bitwise o place a b = unless (wants_bits a b) (computed place Unsigned (Binary o kind.Unsigned a.value b.value))
+abbrev pub bitwise : BinOp → ℕ → Operand × Operand → Checked Found
+bitwise o place p = unless (wants_bits p.0 p.1) (computed place Unsigned (Binary o kind.Unsigned p.0.value p.1.value))
 
-abbrev pub shift : BinOp → ℕ → Operand → Operand → Checked Found
-shift o place a b = unless (wants_shift a b) (computed place Unsigned (Binary o kind.Unsigned a.value b.value))
+abbrev pub shift : BinOp → ℕ → Operand × Operand → Checked Found
+shift o place p = fine (computed place Unsigned (Binary o kind.Unsigned p.0.value p.1.value))
 
-abbrev pub comparison : BinOp → ℕ → Operand → Operand → Checked Found
-comparison o place a b = unless (wants_integers a b) (computed place Int (Binary o (kind_of (common a b)) a.value b.value))
+abbrev pub comparison : BinOp → ℕ → Operand × Operand → Checked Found
+comparison o place p = fine (computed place Int (Binary o (kind_of (common p.0 p.1)) p.0.value p.1.value))
 
 -- of integers an operation, of pointers a test
-abbrev pub equality : BinOp → Bool → ℕ → Operand → Operand → Checked Found
-equality o equal place a b =
-    if is_integer a.typ && is_integer b.typ then comparison o place a b
-    else unless (wants_alike a b) (record { place = place; typ = Int; form = form.Test place a.value b.value equal })
+abbrev pub equality : BinOp → Bool → ℕ → Operand × Operand → Checked Found
+equality o equal place p =
+    if is_integer p.0.typ && is_integer p.1.typ then comparison o place p
+    else unless (wants_alike p.0 p.1) (record { place = place; typ = Int; form = form.Test place p.0.value p.1.value equal })
 
-abbrev pub binary : BinOp → ℕ → Operand × Operand → Checked Found
-binary op.Add place p = arithmetic op.Add place p.0 p.1
-binary op.Sub place p = arithmetic op.Sub place p.0 p.1
-binary op.Mul place p = arithmetic op.Mul place p.0 p.1
-binary op.Div place p = arithmetic op.Div place p.0 p.1
-binary op.Rem place p = arithmetic op.Rem place p.0 p.1
-binary op.And place p = bitwise op.And place p.0 p.1
-binary op.Or place p = bitwise op.Or place p.0 p.1
-binary op.Xor place p = bitwise op.Xor place p.0 p.1
-binary op.Shl place p = shift op.Shl place p.0 p.1
-binary op.Shr place p = shift op.Shr place p.0 p.1
-binary op.Eq place p = equality op.Eq true place p.0 p.1
-binary op.Ne place p = equality op.Ne false place p.0 p.1
-binary op.Lt place p = comparison op.Lt place p.0 p.1
-binary op.Le place p = comparison op.Le place p.0 p.1
-binary op.Gt place p = comparison op.Gt place p.0 p.1
-binary op.Ge place p = comparison op.Ge place p.0 p.1
+-- how an operator takes its operands
+abbrev pub class_of : BinOp → Class
+class_of op.Add = class.Arithmetic
+class_of op.Sub = class.Arithmetic
+class_of op.Mul = class.Arithmetic
+class_of op.Div = class.Arithmetic
+class_of op.Rem = class.Arithmetic
+class_of op.And = class.Bits
+class_of op.Or = class.Bits
+class_of op.Xor = class.Bits
+class_of op.Shl = class.Shift
+class_of op.Shr = class.Shift
+class_of op.Eq = class.Equality true
+class_of op.Ne = class.Equality false
+class_of op.Lt = class.Order
+class_of op.Le = class.Order
+class_of op.Gt = class.Order
+class_of op.Ge = class.Order
+
+abbrev pub left_of : Class → Checked Found → Checked Operand
+left_of class.Arithmetic part = integer_of part
+left_of class.Bits part = integer_of part
+left_of class.Shift part = unsigned_of part
+left_of class.Order part = integer_of part
+left_of (class.Equality equal) part = scalar_of part
+
+abbrev pub right_of : Class → Checked Found → Checked Operand
+right_of class.Arithmetic part = integer_of part
+right_of class.Bits part = integer_of part
+right_of class.Shift part = integer_of part
+right_of class.Order part = integer_of part
+right_of (class.Equality equal) part = scalar_of part
+
+abbrev pub binary : Class → BinOp → ℕ → Operand × Operand → Checked Found
+binary class.Arithmetic o place p = arithmetic o place p
+binary class.Bits o place p = bitwise o place p
+binary class.Shift o place p = shift o place p
+binary class.Order o place p = comparison o place p
+binary (class.Equality equal) o place p = equality o equal place p
 
 abbrev pub judge_binary : BinOp → ℕ → Checked Found → Checked Found → Checked Found
-judge_binary o place left right = follows (pair (operand_of left) (operand_of right)) (binary o place)
+judge_binary o place left right = follows (pair (left_of (class_of o) left) (right_of (class_of o) right)) (binary (class_of o) o place)
 
 -- ---- casts
 

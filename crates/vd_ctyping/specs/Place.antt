@@ -1,7 +1,7 @@
 -- Numbers, variables, sizes and places in memory.
 use Rattle.std.specs.Prelude.{ℕ, ◌*◌, ◌≤◌, ⊤, ◌==◌, Bool, cond, List, [], ◌∷◌, ◌++◌, Option, None, Some, option_map, option_and_then, if◌then◌else◌}
 use Rattle.std.specs.Option.{is_some}
-use Rattle.vd_base.specs.declared.ctype.CType.{CType, Void, Int, Unsigned, Pointer}
+use Rattle.vd_base.specs.declared.ctype.CType.{CType, Void, Int, Unsigned}
 use Rattle.vd_base.specs.Layout.{Table, most_cells, size_of, slot_of, typ_of}
 use Rattle.vd_clight.specs.declared.typed.Root.{Root}
 use Rattle.vd_clight.specs.declared.typed.Root.TheVariants as root
@@ -17,10 +17,11 @@ use Rattle.vd_ctyping.specs.declared.found.Form.{Form}
 use Rattle.vd_ctyping.specs.declared.found.Form.TheVariants as form
 use Rattle.vd_ctyping.specs.declared.found.Found.{Found}
 use Rattle.vd_ctyping.specs.declared.found.Operand.{Operand}
-use Rattle.vd_ctyping.specs.Fault.{first}
-use Rattle.vd_ctyping.specs.Checked.{fine, follows, where_fine}
+use Rattle.vd_ctyping.specs.declared.place.Pointer.{Pointer}
+use Rattle.vd_ctyping.specs.Checked.{fine, follows}
 use Rattle.vd_ctyping.specs.Environment.{Environment, local_of, global_of}
-use Rattle.vd_ctyping.specs.Operation.{computed, wants_integer}
+use Rattle.vd_ctyping.specs.Found.{operand_of, pointer_to}
+use Rattle.vd_ctyping.specs.Operation.{computed}
 use Rattle.vd_ctyping.specs.Types.{is_void, target_of, struct_of, kind_of, holds_of}
 
 -- ---- numbers and sizes
@@ -97,23 +98,28 @@ address_in e = address_layer (out-TExpr e)
 abbrev pub stepped : Part → Lval → Lval
 stepped part l = lval l.root (l.path ++ part ∷ [])
 
--- a place in memory; where its address has no root, that has no normal form, and a stand-in goes with the fault
-abbrev pub rooted : ℕ → ℕ → CType → Option Lval → Checked Found
-rooted place at t None = Typed (in_memory place t (lval (root.Temp 0) [])) (Some (fault.NotNormal at))
-rooted place at t (Some l) = fine (in_memory place t l)
-
 -- no type is wanted that the expression could have
 abbrev pub no_place : ℕ → CType → TypeFault
 no_place at typ = fault.Mismatch at Void typ
 
+-- ---- pointers
+
+-- a pointer whose address has a root; any other disagrees itself
+abbrev pub pointer_by : Operand → Option CType → Option Lval → Checked Pointer
+pointer_by o None l = Untyped (no_place o.place o.typ)
+pointer_by o (Some t) None = Untyped (no_place o.place o.typ)
+pointer_by o (Some t) (Some l) = fine (record { place = o.place; typ = o.typ; target = t; to = l })
+
+abbrev pub as_pointer : Operand → Checked Pointer
+as_pointer o = pointer_by o (target_of o.typ) (address_in o.value)
+
+abbrev pub pointer_of : Checked Found → Checked Pointer
+pointer_of part = follows (operand_of part) as_pointer
+
 -- ---- `* e`
 
-abbrev pub pointed_by : ℕ → Operand → Option CType → Checked Found
-pointed_by place o None = Untyped (no_place o.place o.typ)
-pointed_by place o (Some t) = if is_void t then Untyped (no_place o.place o.typ) else rooted place o.place t (address_in o.value)
-
-abbrev pub pointed : ℕ → Operand → Checked Found
-pointed place o = pointed_by place o (target_of o.typ)
+abbrev pub pointed : ℕ → Pointer → Checked Found
+pointed place p = cond (is_void p.target) (Untyped (no_place p.place p.typ)) (fine (in_memory place p.target p.to))
 
 -- ---- `e [ i ]`
 
@@ -121,15 +127,15 @@ pointed place o = pointed_by place o (target_of o.typ)
 abbrev pub is_one_cell : Table → CType → Bool
 is_one_cell structs t = holds_of (size_of structs t) (λ n. n == 1)
 
-abbrev pub wants_cells : Table → Operand → Option TypeFault
-wants_cells structs o = cond (holds_of (target_of o.typ) (is_one_cell structs)) None (Some (no_place o.place o.typ))
+abbrev pub as_elements : Table → Pointer → Checked Pointer
+as_elements structs p = cond (is_one_cell structs p.target) (fine p) (Untyped (no_place p.place p.typ))
 
-abbrev pub element_by : ℕ → Operand → Operand → Option CType → Checked Found
-element_by place a i None = Untyped (no_place a.place a.typ)
-element_by place a i (Some t) = rooted place a.place t (option_map (stepped (Index (kind_of i.typ) i.value)) (address_in a.value))
+-- a pointer to elements
+abbrev pub elements_of : Table → Checked Found → Checked Pointer
+elements_of structs part = follows (pointer_of part) (as_elements structs)
 
-abbrev pub element : Table → ℕ → Operand × Operand → Checked Found
-element structs place p = where_fine (first (wants_cells structs p.0) (wants_integer p.1)) (element_by place p.0 p.1 (target_of p.0.typ))
+abbrev pub element : ℕ → Pointer × Operand → Checked Found
+element place p = fine (in_memory place p.0.target (stepped (Index (kind_of p.1.typ) p.1.value) p.0.to))
 
 -- ---- `e . f` and `e -> f`
 
@@ -141,17 +147,17 @@ field_in structs s f = option_and_then (λ slot. option_map (λ t. (slot.offset,
 abbrev pub unknown_name : Table → CType → List ℕ → List ℕ → List ℕ
 unknown_name structs t s f = cond (is_some (size_of structs t)) f s
 
-abbrev pub selected_by : ℕ → ℕ → List ℕ → Option Lval → Option (ℕ × CType) → Checked Found
-selected_by place at unknown l None = Untyped (fault.Unknown place unknown)
-selected_by place at unknown l (Some x) = rooted place at x.1 (option_map (stepped (Offset x.0)) l)
+abbrev pub selected_by : ℕ → List ℕ → Lval → Option (ℕ × CType) → Checked Found
+selected_by place unknown l None = Untyped (fault.Unknown place unknown)
+selected_by place unknown l (Some x) = fine (in_memory place x.1 (stepped (Offset x.0) l))
 
 -- a field of the struct s, which is the type t, at a place
-abbrev pub selected : Table → ℕ → ℕ → List ℕ → CType → List ℕ → Option Lval → Checked Found
-selected structs place at f t s l = selected_by place at (unknown_name structs t s f) l (field_in structs s f)
+abbrev pub selected : Table → ℕ → List ℕ → CType → List ℕ → Lval → Checked Found
+selected structs place f t s l = selected_by place (unknown_name structs t s f) l (field_in structs s f)
 
 abbrev pub dot_struct : Table → ℕ → List ℕ → Found → Lval → Option (List ℕ) → Checked Found
 dot_struct structs place f e l None = Untyped (no_place e.place e.typ)
-dot_struct structs place f e l (Some s) = selected structs place e.place f e.typ s (Some l)
+dot_struct structs place f e l (Some s) = selected structs place f e.typ s l
 
 abbrev pub dot_by : Table → ℕ → List ℕ → Found → Form → Checked Found
 dot_by structs place f e form.Zero = Untyped (no_place e.place e.typ)
@@ -163,16 +169,12 @@ dot_by structs place f e (form.Test at a b equal) = Untyped (no_place e.place e.
 abbrev pub dot : Table → ℕ → List ℕ → Found → Checked Found
 dot structs place f e = dot_by structs place f e e.form
 
-abbrev pub arrow_struct : Table → ℕ → List ℕ → Operand → CType → Option (List ℕ) → Checked Found
-arrow_struct structs place f o t None = Untyped (no_place o.place o.typ)
-arrow_struct structs place f o t (Some s) = selected structs place o.place f t s (address_in o.value)
+abbrev pub arrow_by : Table → ℕ → List ℕ → Pointer → Option (List ℕ) → Checked Found
+arrow_by structs place f p None = Untyped (no_place p.place p.typ)
+arrow_by structs place f p (Some s) = selected structs place f p.target s p.to
 
-abbrev pub arrow_by : Table → ℕ → List ℕ → Operand → Option CType → Checked Found
-arrow_by structs place f o None = Untyped (no_place o.place o.typ)
-arrow_by structs place f o (Some t) = arrow_struct structs place f o t (struct_of t)
-
-abbrev pub arrow : Table → ℕ → List ℕ → Operand → Checked Found
-arrow structs place f o = arrow_by structs place f o (target_of o.typ)
+abbrev pub arrow : Table → ℕ → List ℕ → Pointer → Checked Found
+arrow structs place f p = arrow_by structs place f p (struct_of p.target)
 
 -- ---- `& e`
 
@@ -181,7 +183,7 @@ abbrev pub address_by : ℕ → Found → Form → Checked Found
 address_by place e form.Zero = Untyped (no_place e.place e.typ)
 address_by place e (form.Value v) = Untyped (no_place e.place e.typ)
 address_by place e (form.Temporary x) = Untyped (no_place e.place e.typ)
-address_by place e (form.Memory l) = fine (computed place (Pointer e.typ) (Addr l))
+address_by place e (form.Memory l) = fine (computed place (pointer_to e.typ) (Addr l))
 address_by place e (form.Test at a b equal) = Untyped (no_place e.place e.typ)
 
 -- `&` needs a place in memory

@@ -2,10 +2,10 @@
 
 ghost use Rattle.std.specs.Prelude.{◌≡◌, IfOk};
 ghost use Rattle.vd_clight.specs.declared.typed.TExpr.{Binary};
-ghost use Rattle.vd_ctyping.specs.Operation.{wants_integer, wants_integers, wants_unsigned, wants_bits, wants_shift, wants, wants_cast, wants_alike, computed, common, opposite, complement, negation, judge_unary, arithmetic, bitwise, shift, comparison, equality, binary, judge_binary, cast, judge_cast, comparable};
+ghost use Rattle.vd_ctyping.specs.Operation.{as_integer, as_unsigned, as_scalar, integer_of, unsigned_of, scalar_of, wants_bits, wants, wants_cast, wants_alike, computed, common, opposite, complement, negation, judge_unary, arithmetic, bitwise, shift, comparison, equality, class_of, left_of, right_of, binary, judge_binary, cast, judge_cast, comparable};
 
 use crate::checked::{Checked, also, fine, pair, unless};
-use crate::fault::{TypeFault, first};
+use crate::fault::TypeFault;
 use crate::found::{Condition, Form, Found, Operand, condition_of, operand_of};
 use crate::shape::{converts, is_castable, is_integer, is_scalar, is_unsigned, kind_of};
 use std::alloc::{AllocError, Global};
@@ -14,53 +14,75 @@ use vd_clight::{BinOp, Cond, Kind, TExpr, UnOp};
 
 // ---- what operands have to be
 
-pub(crate) fn wants_integer(alloc: Global, o: &Operand) -> Result<Option<TypeFault>, AllocError>
-    ensures { IfOk result (λ f. f ≡ wants_integer o.now) }
+/// A part whose value is an integer. Each operand disagrees for itself, whatever the other one is.
+pub(crate) fn integer_of(
+    alloc: Global,
+    part: Checked<Found>,
+) -> Result<Checked<Operand>, AllocError>
+    ensures { IfOk result (λ o. o ≡ integer_of part) }
+{
+    match operand_of(alloc, part)? {
+        Checked::Untyped(fault) => Ok(Checked::Untyped(fault)),
+        Checked::Typed(o, fault) => Ok(also(fault, as_integer(o))),
+    }
+}
+
+fn as_integer(o: Operand) -> Checked<Operand>
+    ensures { result ≡ as_integer o }
 {
     if is_integer(&o.typ) {
-        return Ok(None);
+        return fine(o);
     }
-    let found = o.typ.copy(alloc)?;
-    Ok(Some(TypeFault::Mismatch(o.place, CType::Void, found)))
+    Checked::Untyped(TypeFault::Mismatch(o.place, CType::Void, o.typ))
 }
 
-fn wants_integers(alloc: Global, a: &Operand, b: &Operand) -> Result<Option<TypeFault>, AllocError>
-    ensures { IfOk result (λ f. f ≡ wants_integers a.now b.now) }
+/// A part whose value is unsigned.
+fn unsigned_of(alloc: Global, part: Checked<Found>) -> Result<Checked<Operand>, AllocError>
+    ensures { IfOk result (λ o. o ≡ unsigned_of part) }
 {
-    let left = wants_integer(alloc, a)?;
-    let right = wants_integer(alloc, b)?;
-    Ok(first(left, right))
+    match operand_of(alloc, part)? {
+        Checked::Untyped(fault) => Ok(Checked::Untyped(fault)),
+        Checked::Typed(o, fault) => Ok(also(fault, as_unsigned(o))),
+    }
 }
 
-fn wants_unsigned(alloc: Global, o: &Operand) -> Result<Option<TypeFault>, AllocError>
-    ensures { IfOk result (λ f. f ≡ wants_unsigned o.now) }
+fn as_unsigned(o: Operand) -> Checked<Operand>
+    ensures { result ≡ as_unsigned o }
 {
     if is_unsigned(&o.typ) {
-        return Ok(None);
+        return fine(o);
     }
-    let found = o.typ.copy(alloc)?;
-    Ok(Some(TypeFault::Mismatch(o.place, CType::Unsigned, found)))
+    Checked::Untyped(TypeFault::Mismatch(o.place, CType::Unsigned, o.typ))
 }
 
-/// Operands of a bit operation are integers, one of them unsigned.
+/// A part whose value can be compared: an integer or a pointer.
+fn scalar_of(alloc: Global, part: Checked<Found>) -> Result<Checked<Operand>, AllocError>
+    ensures { IfOk result (λ o. o ≡ scalar_of part) }
+{
+    match operand_of(alloc, part)? {
+        Checked::Untyped(fault) => Ok(Checked::Untyped(fault)),
+        Checked::Typed(o, fault) => Ok(also(fault, as_scalar(o))),
+    }
+}
+
+fn as_scalar(o: Operand) -> Checked<Operand>
+    ensures { result ≡ as_scalar o }
+{
+    if is_scalar(&o.typ) {
+        return fine(o);
+    }
+    Checked::Untyped(TypeFault::Mismatch(o.place, CType::Void, o.typ))
+}
+
+/// One of two integers of a bit operation is unsigned, else the first disagrees.
 fn wants_bits(alloc: Global, a: &Operand, b: &Operand) -> Result<Option<TypeFault>, AllocError>
     ensures { IfOk result (λ f. f ≡ wants_bits a.now b.now) }
 {
-    if is_integer(&a.typ) && is_integer(&b.typ) {
-        if is_unsigned(&b.typ) {
-            return Ok(None);
-        }
-        return wants_unsigned(alloc, a);
+    if is_unsigned(&a.typ) || is_unsigned(&b.typ) {
+        return Ok(None);
     }
-    wants_integers(alloc, a, b)
-}
-
-fn wants_shift(alloc: Global, a: &Operand, b: &Operand) -> Result<Option<TypeFault>, AllocError>
-    ensures { IfOk result (λ f. f ≡ wants_shift a.now b.now) }
-{
-    let left = wants_unsigned(alloc, a)?;
-    let right = wants_integer(alloc, b)?;
-    Ok(first(left, right))
+    let found = a.typ.copy(alloc)?;
+    Ok(Some(TypeFault::Mismatch(a.place, CType::Unsigned, found)))
 }
 
 /// A value that has to convert to a type.
@@ -92,7 +114,7 @@ fn are_comparable(a: &Operand, b: &Operand) -> bool
     converts(a.zero, &a.typ, &b.typ) || converts(b.zero, &b.typ, &a.typ)
 }
 
-/// Two values of which one converts to the other's type.
+/// Two values of which one converts to the other's type, else the later disagrees.
 fn wants_alike(alloc: Global, a: &Operand, b: &Operand) -> Result<Option<TypeFault>, AllocError>
     ensures { IfOk result (λ f. f ≡ wants_alike a.now b.now) }
 {
@@ -100,11 +122,8 @@ fn wants_alike(alloc: Global, a: &Operand, b: &Operand) -> Result<Option<TypeFau
         return Ok(None);
     }
     let left = a.typ.copy(alloc)?;
-    if is_scalar(&a.typ) {
-        let right = b.typ.copy(alloc)?;
-        return Ok(Some(TypeFault::Mismatch(b.place, left, right)));
-    }
-    Ok(Some(TypeFault::Mismatch(a.place, CType::Void, left)))
+    let right = b.typ.copy(alloc)?;
+    Ok(Some(TypeFault::Mismatch(b.place, left, right)))
 }
 
 // ---- one operand
@@ -119,18 +138,16 @@ pub(crate) fn computed(place: u32, typ: CType, value: TExpr) -> Found
 fn opposite(alloc: Global, place: u32, o: Operand) -> Result<Checked<Found>, AllocError>
     ensures { IfOk result (λ f. f ≡ opposite place o) }
 {
-    let fault = wants_integer(alloc, &o)?;
     let kind = kind_of(&o.typ);
     let value = TExpr::Unary(UnOp::Minus, kind, Boxed::new(alloc, o.value)?);
-    Ok(unless(fault, computed(place, o.typ, value)))
+    Ok(fine(computed(place, o.typ, value)))
 }
 
 fn complement(alloc: Global, place: u32, o: Operand) -> Result<Checked<Found>, AllocError>
     ensures { IfOk result (λ f. f ≡ complement place o) }
 {
-    let fault = wants_unsigned(alloc, &o)?;
     let value = TExpr::Unary(UnOp::Invert, Kind::Unsigned, Boxed::new(alloc, o.value)?);
-    Ok(unless(fault, computed(place, CType::Unsigned, value)))
+    Ok(fine(computed(place, CType::Unsigned, value)))
 }
 
 fn negation(alloc: Global, place: u32, c: Condition) -> Result<Checked<Found>, AllocError>
@@ -160,7 +177,7 @@ pub(crate) fn judge_unary(
     ensures { IfOk result (λ f. f ≡ judge_unary op place part) }
 {
     match op {
-        UnOp::Minus => match operand_of(alloc, part)? {
+        UnOp::Minus => match integer_of(alloc, part)? {
             Checked::Untyped(fault) => Ok(Checked::Untyped(fault)),
             Checked::Typed(o, fault) => Ok(also(fault, opposite(alloc, place, o)?)),
         },
@@ -168,7 +185,7 @@ pub(crate) fn judge_unary(
             Checked::Untyped(fault) => Ok(Checked::Untyped(fault)),
             Checked::Typed(c, fault) => Ok(also(fault, negation(alloc, place, c)?)),
         },
-        UnOp::Invert => match operand_of(alloc, part)? {
+        UnOp::Invert => match unsigned_of(alloc, part)? {
             Checked::Untyped(fault) => Ok(Checked::Untyped(fault)),
             Checked::Typed(o, fault) => Ok(also(fault, complement(alloc, place, o)?)),
         },
@@ -209,12 +226,11 @@ fn arithmetic(
     a: Operand,
     b: Operand,
 ) -> Result<Checked<Found>, AllocError>
-    ensures { IfOk result (λ f. f ≡ arithmetic op place a b) }
+    ensures { IfOk result (λ f. f ≡ arithmetic op place (a, b)) }
 {
-    let fault = wants_integers(alloc, &a, &b)?;
     let typ = common(&a, &b);
     let value = operation(alloc, op, kind_of(&typ), a, b)?;
-    Ok(unless(fault, computed(place, typ, value)))
+    Ok(fine(computed(place, typ, value)))
 }
 
 fn bitwise(
@@ -224,7 +240,7 @@ fn bitwise(
     a: Operand,
     b: Operand,
 ) -> Result<Checked<Found>, AllocError>
-    ensures { IfOk result (λ f. f ≡ bitwise op place a b) }
+    ensures { IfOk result (λ f. f ≡ bitwise op place (a, b)) }
 {
     let fault = wants_bits(alloc, &a, &b)?;
     let value = operation(alloc, op, Kind::Unsigned, a, b)?;
@@ -238,11 +254,10 @@ fn shift(
     a: Operand,
     b: Operand,
 ) -> Result<Checked<Found>, AllocError>
-    ensures { IfOk result (λ f. f ≡ shift op place a b) }
+    ensures { IfOk result (λ f. f ≡ shift op place (a, b)) }
 {
-    let fault = wants_shift(alloc, &a, &b)?;
     let value = operation(alloc, op, Kind::Unsigned, a, b)?;
-    Ok(unless(fault, computed(place, CType::Unsigned, value)))
+    Ok(fine(computed(place, CType::Unsigned, value)))
 }
 
 fn comparison(
@@ -252,12 +267,11 @@ fn comparison(
     a: Operand,
     b: Operand,
 ) -> Result<Checked<Found>, AllocError>
-    ensures { IfOk result (λ f. f ≡ comparison op place a b) }
+    ensures { IfOk result (λ f. f ≡ comparison op place (a, b)) }
 {
-    let fault = wants_integers(alloc, &a, &b)?;
     let kind = kind_of(&common(&a, &b));
     let value = operation(alloc, op, kind, a, b)?;
-    Ok(unless(fault, computed(place, CType::Int, value)))
+    Ok(fine(computed(place, CType::Int, value)))
 }
 
 /// Whether two values are equal, or whether they differ: of integers an operation, of pointers a test.
@@ -269,7 +283,7 @@ fn equality(
     a: Operand,
     b: Operand,
 ) -> Result<Checked<Found>, AllocError>
-    ensures { IfOk result (λ f. f ≡ equality op equal place a b) }
+    ensures { IfOk result (λ f. f ≡ equality op equal place (a, b)) }
 {
     if is_integer(&a.typ) && is_integer(&b.typ) {
         return comparison(alloc, op, place, a, b);
@@ -280,32 +294,90 @@ fn equality(
     Ok(unless(fault, Found { place, typ, form }))
 }
 
+/// How an operator takes its operands.
+#[derive(Clone, Copy)]
+enum Class {
+    Arithmetic,
+    Bits,
+    Shift,
+    Order,
+    /// Whether it asks that they are equal.
+    Equality(bool),
+}
+
+fn class_of(op: BinOp) -> Class
+    ensures { result ≡ class_of op }
+{
+    match op {
+        BinOp::Add => Class::Arithmetic,
+        BinOp::Sub => Class::Arithmetic,
+        BinOp::Mul => Class::Arithmetic,
+        BinOp::Div => Class::Arithmetic,
+        BinOp::Rem => Class::Arithmetic,
+        BinOp::And => Class::Bits,
+        BinOp::Or => Class::Bits,
+        BinOp::Xor => Class::Bits,
+        BinOp::Shl => Class::Shift,
+        BinOp::Shr => Class::Shift,
+        BinOp::Eq => Class::Equality(true),
+        BinOp::Ne => Class::Equality(false),
+        BinOp::Lt => Class::Order,
+        BinOp::Le => Class::Order,
+        BinOp::Gt => Class::Order,
+        BinOp::Ge => Class::Order,
+    }
+}
+
+/// The left operand as a class of operators wants it.
+fn left_of(
+    alloc: Global,
+    class: Class,
+    part: Checked<Found>,
+) -> Result<Checked<Operand>, AllocError>
+    ensures { IfOk result (λ o. o ≡ left_of class part) }
+{
+    match class {
+        Class::Arithmetic => integer_of(alloc, part),
+        Class::Bits => integer_of(alloc, part),
+        Class::Shift => unsigned_of(alloc, part),
+        Class::Order => integer_of(alloc, part),
+        Class::Equality(_) => scalar_of(alloc, part),
+    }
+}
+
+/// The right operand as a class of operators wants it.
+fn right_of(
+    alloc: Global,
+    class: Class,
+    part: Checked<Found>,
+) -> Result<Checked<Operand>, AllocError>
+    ensures { IfOk result (λ o. o ≡ right_of class part) }
+{
+    match class {
+        Class::Arithmetic => integer_of(alloc, part),
+        Class::Bits => integer_of(alloc, part),
+        Class::Shift => integer_of(alloc, part),
+        Class::Order => integer_of(alloc, part),
+        Class::Equality(_) => scalar_of(alloc, part),
+    }
+}
+
 fn binary(
     alloc: Global,
+    class: Class,
     op: BinOp,
     place: u32,
     a: Operand,
     b: Operand,
 ) -> Result<Checked<Found>, AllocError>
-    ensures { IfOk result (λ f. f ≡ binary op place (a, b)) }
+    ensures { IfOk result (λ f. f ≡ binary class op place (a, b)) }
 {
-    match op {
-        BinOp::Add => arithmetic(alloc, op, place, a, b),
-        BinOp::Sub => arithmetic(alloc, op, place, a, b),
-        BinOp::Mul => arithmetic(alloc, op, place, a, b),
-        BinOp::Div => arithmetic(alloc, op, place, a, b),
-        BinOp::Rem => arithmetic(alloc, op, place, a, b),
-        BinOp::And => bitwise(alloc, op, place, a, b),
-        BinOp::Or => bitwise(alloc, op, place, a, b),
-        BinOp::Xor => bitwise(alloc, op, place, a, b),
-        BinOp::Shl => shift(alloc, op, place, a, b),
-        BinOp::Shr => shift(alloc, op, place, a, b),
-        BinOp::Eq => equality(alloc, op, true, place, a, b),
-        BinOp::Ne => equality(alloc, op, false, place, a, b),
-        BinOp::Lt => comparison(alloc, op, place, a, b),
-        BinOp::Le => comparison(alloc, op, place, a, b),
-        BinOp::Gt => comparison(alloc, op, place, a, b),
-        BinOp::Ge => comparison(alloc, op, place, a, b),
+    match class {
+        Class::Arithmetic => arithmetic(alloc, op, place, a, b),
+        Class::Bits => bitwise(alloc, op, place, a, b),
+        Class::Shift => shift(alloc, op, place, a, b),
+        Class::Order => comparison(alloc, op, place, a, b),
+        Class::Equality(equal) => equality(alloc, op, equal, place, a, b),
     }
 }
 
@@ -319,13 +391,14 @@ pub(crate) fn judge_binary(
 ) -> Result<Checked<Found>, AllocError>
     ensures { IfOk result (λ f. f ≡ judge_binary op place left right) }
 {
-    let left = operand_of(alloc, left)?;
-    let right = operand_of(alloc, right)?;
+    let class = class_of(op);
+    let left = left_of(alloc, class, left)?;
+    let right = right_of(alloc, class, right)?;
     match pair(left, right) {
         Checked::Untyped(fault) => Ok(Checked::Untyped(fault)),
         Checked::Typed(both, fault) => {
             let (a, b) = both;
-            Ok(also(fault, binary(alloc, op, place, a, b)?))
+            Ok(also(fault, binary(alloc, class, op, place, a, b)?))
         }
     }
 }

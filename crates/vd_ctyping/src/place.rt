@@ -3,14 +3,13 @@
 ghost use Rattle.std.specs.Prelude.{◌≡◌, ◌≤◌, option_map, IfOk, IfSome, [], ◌*◌, ◌^◌, ◌<◌};
 ghost use Rattle.vd_base.specs.Layout.{most_cells, size_of};
 ghost use Rattle.vd_ctyping.specs.Checked.{follows, pair};
-ghost use Rattle.vd_ctyping.specs.Found.{operand_of};
-ghost use Rattle.vd_ctyping.specs.Types.{target_of, holds_of};
-ghost use Rattle.vd_ctyping.specs.Place.{number, cells, IsSmall, sized, aligned, variable, global_found, in_memory, lval, address_in, stepped, rooted, no_place, pointed, is_one_cell, wants_cells, element, element_by, selected, field_in, unknown_name, dot, dot_struct, arrow, arrow_struct, address};
+ghost use Rattle.vd_ctyping.specs.Operation.{integer_of};
+ghost use Rattle.vd_ctyping.specs.Place.{number, cells, IsSmall, sized, aligned, variable, global_found, in_memory, lval, address_in, stepped, as_pointer, pointer_of, pointed, is_one_cell, as_elements, elements_of, element, selected, field_in, unknown_name, dot, arrow, address};
 
 use crate::checked::{Checked, also, fine, pair};
-use crate::fault::{TypeFault, first};
+use crate::fault::TypeFault;
 use crate::found::{Form, Found, Operand, operand_of, pointer_to};
-use crate::operation::{computed, wants_integer};
+use crate::operation::{computed, integer_of};
 use crate::scope::Scope;
 use crate::shape::{is_void, kind_of, struct_of, target_of};
 use std::alloc::{AllocError, Global};
@@ -186,51 +185,62 @@ fn stepped(part: Part, l: Lval) -> Result<Lval, AllocError>
     Ok(Lval { root, path })
 }
 
-fn stepped_from(part: Part, l: Option<Lval>) -> Result<Option<Lval>, AllocError>
-    ensures { IfOk result (λ l'. l' ≡ option_map (stepped part) l) }
+// ---- pointers
+
+/// A pointer, what it points to, and where that is.
+#[derive(Drop)]
+pub(crate) struct Pointer {
+    pub(crate) place: u32,
+    pub(crate) typ: CType,
+    pub(crate) target: CType,
+    pub(crate) to: Lval,
+}
+
+fn as_pointer(alloc: Global, o: Operand) -> Result<Checked<Pointer>, AllocError>
+    ensures { IfOk result (λ p. p ≡ as_pointer o) }
 {
-    match l {
-        None => Ok(None),
-        Some(l) => Ok(Some(stepped(part, l)?)),
+    let Operand {
+        place,
+        typ,
+        zero: _,
+        value,
+    } = o;
+    match target_of(&typ) {
+        None => Ok(Checked::Untyped(TypeFault::Mismatch(place, CType::Void, typ))),
+        Some(t) => match address_in(alloc, value) {
+            None => Ok(Checked::Untyped(TypeFault::Mismatch(place, CType::Void, typ))),
+            Some(to) => {
+                let target = t.copy(alloc)?;
+                Ok(fine(Pointer {
+                    place,
+                    typ,
+                    target,
+                    to,
+                }))
+            }
+        },
     }
 }
 
-/// A place in memory, whose address has no normal form where it has no root.
-fn rooted(alloc: Global, place: u32, at: u32, typ: CType, l: Option<Lval>) -> Checked<Found>
-    ensures { result ≡ rooted place at typ l }
+/// A part that is a pointer whose address has a root.
+fn pointer_of(alloc: Global, part: Checked<Found>) -> Result<Checked<Pointer>, AllocError>
+    ensures { IfOk result (λ p. p ≡ pointer_of part) }
 {
-    match l {
-        None => {
-            let l = root_alone(alloc, Root::Temp(0));
-            Checked::Typed(in_memory(place, typ, l), Some(TypeFault::NotNormal(at)))
-        }
-        Some(l) => fine(in_memory(place, typ, l)),
+    match operand_of(alloc, part)? {
+        Checked::Untyped(fault) => Ok(Checked::Untyped(fault)),
+        Checked::Typed(o, fault) => Ok(also(fault, as_pointer(alloc, o)?)),
     }
-}
-
-fn no_place(alloc: Global, at: u32, typ: &CType) -> Result<TypeFault, AllocError>
-    ensures { IfOk result (λ f. f ≡ no_place at typ.now) }
-{
-    let found = typ.copy(alloc)?;
-    Ok(TypeFault::Mismatch(at, CType::Void, found))
 }
 
 // ---- `* e`
 
-fn pointed(alloc: Global, place: u32, o: Operand) -> Result<Checked<Found>, AllocError>
-    ensures { IfOk result (λ f. f ≡ pointed place o) }
+fn pointed(place: u32, p: Pointer) -> Checked<Found>
+    ensures { result ≡ pointed place p }
 {
-    match target_of(&o.typ) {
-        None => Ok(Checked::Untyped(no_place(alloc, o.place, &o.typ)?)),
-        Some(t) => {
-            if is_void(t) {
-                return Ok(Checked::Untyped(no_place(alloc, o.place, &o.typ)?));
-            }
-            let typ = t.copy(alloc)?;
-            let l = address_in(alloc, o.value);
-            Ok(rooted(alloc, place, o.place, typ, l))
-        }
+    if is_void(&p.target) {
+        return Checked::Untyped(TypeFault::Mismatch(p.place, CType::Void, p.typ));
     }
+    fine(in_memory(place, p.target, p.to))
 }
 
 /// What a pointer points to.
@@ -239,11 +249,11 @@ pub(crate) fn judge_deref(
     place: u32,
     part: Checked<Found>,
 ) -> Result<Checked<Found>, AllocError>
-    ensures { IfOk result (λ f. f ≡ follows (operand_of part) (pointed place)) }
+    ensures { IfOk result (λ f. f ≡ follows (pointer_of part) (pointed place)) }
 {
-    match operand_of(alloc, part)? {
+    match pointer_of(alloc, part)? {
         Checked::Untyped(fault) => Ok(Checked::Untyped(fault)),
-        Checked::Typed(o, fault) => Ok(also(fault, pointed(alloc, place, o)?)),
+        Checked::Typed(p, fault) => Ok(also(fault, pointed(place, p))),
     }
 }
 
@@ -258,63 +268,35 @@ fn is_one_cell(structs: &Structs, t: &CType) -> bool
     }
 }
 
-fn has_elements(structs: &Structs, o: &Operand) -> bool
-    ensures { result ≡ holds_of (target_of o.now.typ) (is_one_cell structs.now) }
+fn as_elements(structs: &Structs, p: Pointer) -> Checked<Pointer>
+    ensures { result ≡ as_elements structs.now p }
 {
-    match target_of(&o.typ) {
-        None => false,
-        Some(t) => is_one_cell(structs, t),
+    if is_one_cell(structs, &p.target) {
+        return fine(p);
     }
+    Checked::Untyped(TypeFault::Mismatch(p.place, CType::Void, p.typ))
 }
 
-/// Elements have one cell.
-fn wants_cells(
+/// A part that points to elements, which have one cell.
+fn elements_of(
     alloc: Global,
     structs: &Structs,
-    o: &Operand,
-) -> Result<Option<TypeFault>, AllocError>
-    ensures { IfOk result (λ f. f ≡ wants_cells structs.now o.now) }
+    part: Checked<Found>,
+) -> Result<Checked<Pointer>, AllocError>
+    ensures { IfOk result (λ p. p ≡ elements_of structs.now part) }
 {
-    if has_elements(structs, o) {
-        return Ok(None);
-    }
-    Ok(Some(no_place(alloc, o.place, &o.typ)?))
-}
-
-fn element_at(
-    alloc: Global,
-    place: u32,
-    a: Operand,
-    i: Operand,
-) -> Result<Checked<Found>, AllocError>
-    ensures { IfOk result (λ f. f ≡ element_by place a i (target_of a.typ)) }
-{
-    match target_of(&a.typ) {
-        None => Ok(Checked::Untyped(no_place(alloc, a.place, &a.typ)?)),
-        Some(t) => {
-            let typ = t.copy(alloc)?;
-            let part = Part::Index(kind_of(&i.typ), i.value);
-            let l = stepped_from(part, address_in(alloc, a.value))?;
-            Ok(rooted(alloc, place, a.place, typ, l))
-        }
+    match pointer_of(alloc, part)? {
+        Checked::Untyped(fault) => Ok(Checked::Untyped(fault)),
+        Checked::Typed(p, fault) => Ok(also(fault, as_elements(structs, p))),
     }
 }
 
-fn element(
-    alloc: Global,
-    structs: &Structs,
-    place: u32,
-    a: Operand,
-    i: Operand,
-) -> Result<Checked<Found>, AllocError>
-    ensures { IfOk result (λ f. f ≡ element structs.now place (a, i)) }
+fn element(place: u32, p: Pointer, i: Operand) -> Result<Checked<Found>, AllocError>
+    ensures { IfOk result (λ f. f ≡ element place (p, i)) }
 {
-    let cells = wants_cells(alloc, structs, &a)?;
-    let integer = wants_integer(alloc, &i)?;
-    match first(cells, integer) {
-        None => element_at(alloc, place, a, i),
-        Some(fault) => Ok(Checked::Untyped(fault)),
-    }
+    let part = Part::Index(kind_of(&i.typ), i.value);
+    let l = stepped(part, p.to)?;
+    Ok(fine(in_memory(place, p.target, l)))
 }
 
 /// An element of what a pointer points to.
@@ -325,15 +307,15 @@ pub(crate) fn judge_index(
     part: Checked<Found>,
     index: Checked<Found>,
 ) -> Result<Checked<Found>, AllocError>
-    ensures { IfOk result (λ f. f ≡ follows (pair (operand_of part) (operand_of index)) (element structs.now place)) }
+    ensures { IfOk result (λ f. f ≡ follows (pair (elements_of structs.now part) (integer_of index)) (element place)) }
 {
-    let part = operand_of(alloc, part)?;
-    let index = operand_of(alloc, index)?;
+    let part = elements_of(alloc, structs, part)?;
+    let index = integer_of(alloc, index)?;
     match pair(part, index) {
         Checked::Untyped(fault) => Ok(Checked::Untyped(fault)),
         Checked::Typed(both, fault) => {
-            let (a, i) = both;
-            Ok(also(fault, element(alloc, structs, place, a, i)?))
+            let (p, i) = both;
+            Ok(also(fault, element(place, p, i)?))
         }
     }
 }
@@ -369,13 +351,12 @@ fn selected(
     alloc: Global,
     structs: &Structs,
     place: u32,
-    at: u32,
     f: &Name,
     t: &CType,
     s: &Name,
-    l: Option<Lval>,
+    l: Lval,
 ) -> Result<Checked<Found>, AllocError>
-    ensures { IfOk result (λ r. r ≡ selected structs.now place at f.now t.now s.now l) }
+    ensures { IfOk result (λ r. r ≡ selected structs.now place f.now t.now s.now l) }
 {
     match field_in(structs, s, f) {
         None => {
@@ -384,8 +365,8 @@ fn selected(
         }
         Some(field) => {
             let typ = field.1.copy(alloc)?;
-            let l = stepped_from(Part::Offset(field.0), l)?;
-            Ok(rooted(alloc, place, at, typ, l))
+            let l = stepped(Part::Offset(field.0), l)?;
+            Ok(fine(in_memory(place, typ, l)))
         }
     }
 }
@@ -410,7 +391,7 @@ fn dot(
         Form::Temporary(_) => Ok(Checked::Untyped(TypeFault::Mismatch(at, CType::Void, typ))),
         Form::Memory(l) => match struct_of(&typ) {
             None => Ok(Checked::Untyped(TypeFault::Mismatch(at, CType::Void, typ))),
-            Some(s) => selected(alloc, structs, place, at, f, &typ, s, Some(l)),
+            Some(s) => selected(alloc, structs, place, f, &typ, s, l),
         },
         Form::Test(_, _, _, _) => Ok(Checked::Untyped(TypeFault::Mismatch(at, CType::Void, typ))),
     }
@@ -437,25 +418,19 @@ fn arrow(
     structs: &Structs,
     place: u32,
     f: &Name,
-    o: Operand,
+    p: Pointer,
 ) -> Result<Checked<Found>, AllocError>
-    ensures { IfOk result (λ r. r ≡ arrow structs.now place f.now o) }
+    ensures { IfOk result (λ r. r ≡ arrow structs.now place f.now p) }
 {
-    let Operand {
+    let Pointer {
         place: at,
         typ,
-        zero: _,
-        value,
-    } = o;
-    match target_of(&typ) {
-        None => Ok(Checked::Untyped(no_place(alloc, at, &typ)?)),
-        Some(t) => match struct_of(t) {
-            None => Ok(Checked::Untyped(no_place(alloc, at, &typ)?)),
-            Some(s) => {
-                let l = address_in(alloc, value);
-                selected(alloc, structs, place, at, f, t, s, l)
-            }
-        },
+        target,
+        to,
+    } = p;
+    match struct_of(&target) {
+        None => Ok(Checked::Untyped(TypeFault::Mismatch(at, CType::Void, typ))),
+        Some(s) => selected(alloc, structs, place, f, &target, s, to),
     }
 }
 
@@ -467,11 +442,11 @@ pub(crate) fn judge_arrow(
     part: Checked<Found>,
     f: &Name,
 ) -> Result<Checked<Found>, AllocError>
-    ensures { IfOk result (λ r. r ≡ follows (operand_of part) (arrow structs.now place f.now)) }
+    ensures { IfOk result (λ r. r ≡ follows (pointer_of part) (arrow structs.now place f.now)) }
 {
-    match operand_of(alloc, part)? {
+    match pointer_of(alloc, part)? {
         Checked::Untyped(fault) => Ok(Checked::Untyped(fault)),
-        Checked::Typed(o, fault) => Ok(also(fault, arrow(alloc, structs, place, f, o)?)),
+        Checked::Typed(p, fault) => Ok(also(fault, arrow(alloc, structs, place, f, p)?)),
     }
 }
 

@@ -32,6 +32,10 @@ fn binary(alloc: Global, op: BinOp, a: Expr, b: Expr) -> Result<Expr, Fail> {
     Ok(at(place, ExprNode::Binary(op, a, b)))
 }
 
+fn deref(alloc: Global, place: u32, e: Expr) -> Result<Expr, Fail> {
+    Ok(at(place, ExprNode::Deref(Boxed::new(alloc, e)?)))
+}
+
 fn assign(left: Expr, right: Expr) -> Stmt {
     Stmt {
         place: left.place,
@@ -64,7 +68,7 @@ fn scope(alloc: Global) -> Result<CScope, Fail> {
     })
 }
 
-// `int f(struct n *p){int x; unsigned u; struct n *w; struct n *t; ..}` with one statement.
+// `int f(struct n *p){int x; unsigned u; struct n *w; struct n *t; void *v; ..}` with one statement.
 fn typed(alloc: Global, s: Stmt) -> Result<Result<TypedFn, TypeFault>, Fail> {
     let mut params = List::new(alloc);
     params.push(field(alloc, b"p", node(alloc)?)?)?;
@@ -73,6 +77,8 @@ fn typed(alloc: Global, s: Stmt) -> Result<Result<TypedFn, TypeFault>, Fail> {
     temps.push(field(alloc, b"u", CType::Unsigned)?)?;
     temps.push(field(alloc, b"w", node(alloc)?)?)?;
     temps.push(field(alloc, b"t", node(alloc)?)?)?;
+    let untyped = CType::Pointer(Boxed::new(alloc, CType::Void)?);
+    temps.push(field(alloc, b"v", untyped)?)?;
     let mut body = List::new(alloc);
     body.push(s)?;
     let f = FnText {
@@ -129,6 +135,12 @@ enum Text {
     NoPointer,
     // `x=p->a->b+y;`
     ReadBeforeUnknown,
+    // `x=p+y;`
+    PointerBeforeUnknown,
+    // `x=*v;`
+    VoidPointer,
+    // `p=*(int*)0;`
+    NoRoot,
     // `while(p!=0){t=p->a;p->a=w;w=p;p=t;}`
     Reverse,
 }
@@ -191,6 +203,15 @@ fn statement(alloc: Global, text: Text) -> Result<Stmt, Fail> {
             let read = arrow(alloc, arrow(alloc, p, b"a")?, b"b")?;
             binary(alloc, BinOp::Add, read, variable(alloc, 40, b"y")?)?
         }
+        Text::PointerBeforeUnknown => binary(alloc, BinOp::Add, p, variable(alloc, 34, b"y")?)?,
+        Text::VoidPointer => deref(alloc, 32, variable(alloc, 33, b"v")?)?,
+        Text::NoRoot => {
+            let zero = Boxed::new(alloc, at(39, ExprNode::Num(0, false)))?;
+            let to = CType::Pointer(Boxed::new(alloc, CType::Int)?);
+            let null = at(33, ExprNode::Cast(to, zero));
+            let read = deref(alloc, 32, null)?;
+            return Ok(assign(variable(alloc, 30, b"p")?, read));
+        }
         Text::Reverse => return reverse(alloc),
     };
     Ok(assign(x, e))
@@ -205,6 +226,9 @@ const ANSWERS: &[(Text, Answer)] = &[
     (Text::Bits, Answer::Typed),
     (Text::NoPointer, Answer::Mismatch(32)),
     (Text::ReadBeforeUnknown, Answer::NotNormal(32)),
+    (Text::PointerBeforeUnknown, Answer::Mismatch(32)),
+    (Text::VoidPointer, Answer::Mismatch(33)),
+    (Text::NoRoot, Answer::Mismatch(33)),
     (Text::Reverse, Answer::Typed),
 ];
 
@@ -241,7 +265,7 @@ fn typed_syntax_has_numbers_offsets_and_kinds(rt: HostRuntime) -> Result<(), Fai
     let s = assign(left, binary(alloc, BinOp::Add, x, u)?);
     match typed(alloc, s)? {
         Ok(f) => match f.body.get(0) {
-            Some(s) => assert!(rt; is_sum_stored(s) && f.params == 1 && f.temps.len() == 5),
+            Some(s) => assert!(rt; is_sum_stored(s) && f.params == 1 && f.temps.len() == 6),
             None => assert!(rt; false),
         },
         Err(_) => assert!(rt; false),
