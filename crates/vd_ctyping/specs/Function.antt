@@ -1,5 +1,5 @@
 -- Typed functions.
-use Rattle.std.specs.Prelude.{◌≡◌, ℕ, Bool, true, not, ◌&&◌, ◌||◌, List, [], ◌∷◌, ◌++◌, None, Some, length, map, Result, Ok, Err, ⊤, if◌then◌else◌}
+use Rattle.std.specs.Prelude.{ℕ, Bool, true, not, ◌&&◌, ◌||◌, List, [], ◌∷◌, ◌++◌, None, Some, length, map, Result, Ok, Err, if◌then◌else◌}
 use Rattle.std.specs.List.{list_any, list_all}
 use Rattle.std.specs.Str.{bytes_eq}
 use Rattle.vd_base.specs.declared.ctype.CType.{CType, Void}
@@ -61,11 +61,3 @@ body_of scope f = block (map (typed_statement (environment scope f)) f.body)
 -- the typed function, or its first fault; declarations stand at place 0, before all else
 abbrev pub typed_function : CScope → FnText → Result TypedFn TypeFault
 typed_function scope f = if are_declared f then finished f (body_of scope f) else Err (fault.Mismatch 0 Void Void)
-
--- an answer is the typed function or its first fault, unless memory ran out
-abbrev pub Answers : Result TypedFn TypeFault → Result TypedFn TypeFault → Type 0
-Answers typed (Ok f) = typed ≡ Ok f
-Answers typed (Err fault.Memory) = ⊤
-Answers typed (Err (fault.Unknown place name)) = typed ≡ Err (fault.Unknown place name)
-Answers typed (Err (fault.Mismatch place wanted given)) = typed ≡ Err (fault.Mismatch place wanted given)
-Answers typed (Err (fault.NotNormal place)) = typed ≡ Err (fault.NotNormal place)

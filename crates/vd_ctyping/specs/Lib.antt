@@ -1,5 +1,6 @@
 pub mod Call
 pub mod Checked
+pub mod Derivation
 pub mod Environment
 pub mod Expression
 pub mod Fault
@@ -8,5 +9,9 @@ pub mod Function
 pub mod NameTable
 pub mod Operation
 pub mod Place
+pub mod Rule
+pub mod Rules
+pub mod Sort
 pub mod Statement
 pub mod Types
+pub mod Typing

@@ -2,8 +2,9 @@
 
 ghost use Rattle.std.specs.Prelude.{◌≡◌, ◌++◌, ◌∷◌, ◌<◌, ◌+◌, ◌^◌, nat_lt, length, IfOk, OnOk};
 ghost use Rattle.vd_ctyping.specs.Environment.{names_of, global_names, function_names};
-ghost use Rattle.vd_ctyping.specs.Function.{are_scalars, is_result, are_declared, are_distinct, variables, body_of, finished, typed_function, Answers};
+ghost use Rattle.vd_ctyping.specs.Function.{are_scalars, is_result, are_declared, are_distinct, variables, body_of, finished, typed_function};
 ghost use Rattle.vd_ctyping.specs.NameTable.{Numbers};
+ghost use Rattle.vd_ctyping.specs.Typing.{Answers};
 
 use crate::checked::Checked;
 use crate::fault::TypeFault;
@@ -210,7 +211,7 @@ fn typed(
 /// types comes before one of the normal form, and of two alike the one that is read first. Time and memory grow with the
 /// function and the scope together. The types are CompCert Clight's, the normal form is Verifiable C's.
 pub fn type_fn(alloc: Global, scope: &CScope, f: &FnText) -> Result<TypedFn, TypeFault>
-    ensures { Answers (typed_function scope.now f.now) result }
+    ensures { Answers scope.now f.now result }
 {
     match typed(alloc, scope, f) {
         Ok(answer) => answer,

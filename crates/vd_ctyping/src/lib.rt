@@ -9,6 +9,7 @@ mod expression;
 mod fault;
 mod found;
 mod function;
+mod laws;
 mod names;
 mod operation;
 mod place;
@@ -19,6 +20,7 @@ mod statement;
 
 pub use fault::TypeFault;
 pub use function::type_fn;
+pub use laws::typing_laws;
 
 #[cfg(test)]
 mod tests;
