@@ -1,44 +1,27 @@
 -- The checker's way of each construct agrees with its rule.
-use Rattle.std.proofs.Common.{◌≡◌, ℕ, ◌+◌, Bool, true, false, cond, List, [], ◌∷◌, map, codes, Option, None, Some, refl, sym, ap, ◌∙◌, subst, length}
-use Rattle.std.specs.Prelude.{if◌then◌else◌}
-use Rattle.std.specs.Str.{bytes_eq}
-use Rattle.vd_base.specs.declared.ctype.CType.{CType, Void}
-use Rattle.vd_base.specs.declared.ctype.Field.{Field}
+use Rattle.std.proofs.Common.{◌≡◌, ℕ, sym, ap, ◌∙◌, subst}
 use Rattle.vd_base.specs.Layout.{Table}
 use Rattle.vd_clight.specs.declared.syntax.Expr.{Expr, fold_out-Expr}
 use Rattle.vd_clight.specs.declared.syntax.ExprNode.{ExprNode, ExprNode-F, out-ExprNode, fold-ExprNode, fold_out-ExprNode, map-ExprNode}
 use Rattle.vd_clight.specs.declared.syntax.ExprNode.TheOpen as node
 use Rattle.vd_clight.specs.declared.syntax.UnOp.{UnOp}
 use Rattle.vd_clight.specs.declared.syntax.UnOp.TheVariants as prefix
-use Rattle.vd_clight.specs.declared.typed.Lval.{Lval}
-use Rattle.vd_clight.specs.declared.typed.TExpr.{TExpr}
-use Rattle.vd_clight.specs.declared.typed.TStmt.{TStmt, Set, Load, Store, Return, Spawn, Call}
-use Rattle.vd_ctyping.specs.declared.builtin.Builtin.{Builtin}
 use Rattle.vd_ctyping.specs.declared.checked.Checked.{Checked}
-use Rattle.vd_ctyping.specs.declared.checked.Checked.TheVariants.{Untyped}
-use Rattle.vd_ctyping.specs.declared.fault.TypeFault.TheVariants as fault
-use Rattle.vd_ctyping.specs.declared.found.Destination.{Destination}
-use Rattle.vd_ctyping.specs.declared.found.Destination.TheVariants as to
 use Rattle.vd_ctyping.specs.declared.found.Form.{Form}
 use Rattle.vd_ctyping.specs.declared.found.Form.TheVariants as form
 use Rattle.vd_ctyping.specs.declared.found.Found.{Found}
-use Rattle.vd_ctyping.specs.declared.found.Operand.{Operand}
 use Rattle.vd_ctyping.specs.declared.operation.Class.{Class}
 use Rattle.vd_ctyping.specs.declared.operation.Class.TheVariants as class
-use Rattle.vd_ctyping.specs.Call as calls
-use Rattle.vd_ctyping.specs.Checked.{fine, unless, follows, pair, added, with_last}
-use Rattle.vd_ctyping.specs.Environment.{Environment, function_of}
-use Rattle.vd_ctyping.specs.Expression.{judge_node, judge_layer, judged}
-use Rattle.vd_ctyping.specs.Found.{as_operand, operand_of, truth, truth_of, condition_by, as_condition, condition_of, as_target, left_side, pointer_to}
-use Rattle.vd_ctyping.specs.Operation.{as_integer, as_unsigned, as_scalar, integer_of, unsigned_of, scalar_of, wants, opposite, complement, negation, judge_unary, class_of, left_of, right_of, binary, cast}
-use Rattle.vd_ctyping.specs.Place.{number, variable, sized, aligned, dot, as_pointer, pointer_of, as_elements, elements_of, arrow, element, pointed, address}
-use Rattle.vd_ctyping.specs.Rule.{Rule, says, expression, statement, rests, beside}
-use Rattle.vd_ctyping.specs.Rules as rules
+use Rattle.vd_ctyping.specs.Checked.{fine, follows, pair}
+use Rattle.vd_ctyping.specs.Environment.{Environment}
+use Rattle.vd_ctyping.specs.CheckedExpression.{judge_node, judge_layer, judged, operand_of, truth_of, condition_by, as_condition, condition_of, left_side, integer_of, unsigned_of, scalar_of, judge_unary, left_of, right_of, pointer_of, elements_of}
+use Rattle.vd_ctyping.specs.Found.{as_operand, truth, as_target}
+use Rattle.vd_ctyping.specs.Operation.{as_integer, as_unsigned, as_scalar, opposite, complement, negation, class_of, binary, cast}
+use Rattle.vd_ctyping.specs.Place.{number, variable, sized, aligned, dot, as_pointer, as_elements, arrow, element, pointed, address}
+use Rattle.vd_ctyping.specs.Rule.{Rule, says, expression, rests, beside}
 use Rattle.vd_ctyping.specs.Rules.{a_value, an_integer, an_unsigned, a_scalar, a_pointer, an_array, by_value, tested_form, a_condition, a_target, value_of, unary_rule, left_operand, right_operand, node_rule, expression_rule}
 use Rattle.vd_ctyping.specs.Sort.{Sort, Meaning}
 use Rattle.vd_ctyping.specs.Sort as sort
-use Rattle.vd_ctyping.specs.Statement as checks
-use Rattle.vd_ctyping.specs.Types.{element_of}
 use Rattle.vd_ctyping.proofs.Agreement.{Agrees, agrees_says, agrees_rests, agrees_both, agrees_expression}
 
 module _ (env : Environment) where
@@ -143,7 +126,7 @@ module _ (env : Environment) where
   node_agrees (node.Unary o a) place p = unary o place (expression a) (judged env a) p
   node_agrees (node.Binary o a b) place p =
       said_of_both (left_operand (class_of o) (expression a)) (right_operand (class_of o) (expression b)) (left_of (class_of o) (judged env a)) (right_of (class_of o) (judged env b)) (binary (class_of o) o place)
-        (left (expression a) (judged env a) p.0 (class_of o)) (right (expression b) (judged env b) p.1 (class_of o))
+      (left (expression a) (judged env a) p.0 (class_of o)) (right (expression b) (judged env b) p.1 (class_of o))
   node_agrees (node.Cast t a) place p = said_on (a_value (expression a)) (operand_of (judged env a)) (cast place t) (value (expression a) (judged env a) p)
   node_agrees (node.SizeOf t) place p = agrees_says env (sized env.structs place t)
   node_agrees (node.AlignOf t) place p = agrees_says env (aligned env.structs place t)
@@ -151,7 +134,7 @@ module _ (env : Environment) where
   node_agrees (node.Arrow a f) place p = said_on (a_pointer (expression a)) (pointer_of (judged env a)) (arrow env.structs place f) (pointer (expression a) (judged env a) p)
   node_agrees (node.Index a i) place p =
       said_of_both (an_array env.structs (expression a)) (an_integer (expression i)) (elements_of env.structs (judged env a)) (integer_of (judged env i)) (element place)
-        (array (expression a) (judged env a) p.0 env.structs) (integer (expression i) (judged env i) p.1)
+      (array (expression a) (judged env a) p.0 env.structs) (integer (expression i) (judged env i) p.1)
   node_agrees (node.Deref a) place p = said_on (a_pointer (expression a)) (pointer_of (judged env a)) (pointed place) (pointer (expression a) (judged env a) p)
   node_agrees (node.AddressOf a) place p = said_on (expression a) (judged env a) (address place) p
 

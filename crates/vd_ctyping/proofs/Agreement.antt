@@ -9,7 +9,7 @@ use Rattle.vd_ctyping.specs.declared.checked.Checked.TheVariants.{Typed, Untyped
 use Rattle.vd_ctyping.specs.Checked.{also, follows, pair}
 use Rattle.vd_ctyping.specs.Derivation.{Gives, fault_of, Derives, by_itself, by_expression, by_statement, by_resting, by_both, Faulty, itself, in_expression, in_statement, in_part, in_rest, in_left, in_right, is_no_later, leads, IsFirst}
 use Rattle.vd_ctyping.specs.Environment.{Environment}
-use Rattle.vd_ctyping.specs.Fault.{place_of, is_typing, comes_before, earlier, first}
+use Rattle.vd_ctyping.specs.Fault.{place_of, is_typing, comes_before, first}
 use Rattle.vd_ctyping.specs.Rule.{Rule, says, expression, statement, rests, beside}
 use Rattle.vd_ctyping.specs.Rules.{expression_rule, statement_rule}
 use Rattle.vd_ctyping.specs.Sort.{Sort, Meaning}
@@ -308,8 +308,8 @@ module _ (env : Environment) where
     later_faults : (c : Checked (Meaning s)) → Agrees r c → Least (Union (Faulty env s r) (Later r k)) (fault_of (follows c d))
     later_faults (Typed x o) a =
         subst (Least (Union (Faulty env s r) (Later r k))) (sym (fault-also o (d x)))
-          (least_union (Faulty env s r) (Later r k) o (fault_of (d x)) a.faults
-            (least_same (Faulty env t (k x)) (Later r k) (fault_of (d x)) (λ at g h. (x, a.sound false x refl, h)) (λ at g h. subst (λ w. Faulty env t (k w) at g) (sym (a.complete false h.0 h.1)) h.2) (rests_agree x).faults))
+        (least_union (Faulty env s r) (Later r k) o (fault_of (d x)) a.faults
+        (least_same (Faulty env t (k x)) (Later r k) (fault_of (d x)) (λ at g h. (x, a.sound false x refl, h)) (λ at g h. subst (λ w. Faulty env t (k w) at g) (sym (a.complete false h.0 h.1)) h.2) (rests_agree x).faults))
     later_faults (Untyped f) a = least_union (Faulty env s r) (Later r k) (Some f) None a.faults (λ at g h. a.complete false h.0 h.1)
 
     pub agrees_rests : (c : Checked (Meaning s)) → Agrees r c → Agrees (rests r k) (follows c d)

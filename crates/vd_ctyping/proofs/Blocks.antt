@@ -1,6 +1,6 @@
 -- The checker's way of lists of statements, and of statements that hold them, agrees with their rules.
-use Rattle.std.proofs.Common.{◌≡◌, ℕ, List, [], ◌∷◌, map, refl, sym, ap, ◌∙◌, subst}
-use Rattle.vd_clight.specs.declared.syntax.Stmt.{Stmt, Stmt-F, ind-Stmt, roll-Stmt, out-Stmt, out-roll-Stmt, map-Stmt, fold_out-Stmt}
+use Rattle.std.proofs.Common.{◌≡◌, ℕ, List, [], ◌∷◌, map, sym, ap, ◌∙◌, subst}
+use Rattle.vd_clight.specs.declared.syntax.Stmt.{Stmt, Stmt-F, ind-Stmt, roll-Stmt, out-roll-Stmt, map-Stmt, fold_out-Stmt}
 use Rattle.vd_clight.specs.declared.syntax.StmtNode.{StmtNode, StmtNode-F, roll-StmtNode, out-StmtNode, out-roll-StmtNode, fold-StmtNode, fold_out-StmtNode, map-StmtNode}
 use Rattle.vd_clight.specs.declared.syntax.StmtNode.TheOpen as stmt
 use Rattle.vd_clight.specs.declared.typed.TStmt.{TStmt, Skip, If, Loop, Break, Continue}
@@ -11,8 +11,8 @@ use Rattle.vd_ctyping.specs.Rule.{Rule, says, statement, rests, beside}
 use Rattle.vd_ctyping.specs.Rules as rules
 use Rattle.vd_ctyping.specs.Sort.{Meaning}
 use Rattle.vd_ctyping.specs.Sort as sort
-use Rattle.vd_ctyping.specs.Statement as checks
-use Rattle.vd_ctyping.specs.Statement.{statement_node, statement_layer, typed_statement}
+use Rattle.vd_ctyping.specs.CheckedStatement as checks
+use Rattle.vd_ctyping.specs.CheckedStatement.{statement_node, statement_layer, typed_statement}
 use Rattle.vd_ctyping.proofs.Agreement.{Agrees, agrees_says, agrees_both, agrees_statement}
 use Rattle.vd_ctyping.proofs.Agreeing.{said_of_both}
 use Rattle.vd_ctyping.proofs.Statements.{assignments, called, tested, returned}
@@ -62,7 +62,7 @@ module _ (env : Environment) where
       let yes_ = checks.block (map (typed_statement env) a) in
       let other = checks.block (map (typed_statement env) b) in
       said_of_both env (rules.tested e) (beside (rules.block a) (rules.block b)) (checks.tested env e) (pair yes_ other) (λ q. fine (If q.0 q.1.0 q.1.1)) (tested env e)
-        (agrees_both env (rules.block a) (rules.block b) yes_ other (block_agrees a p.0) (block_agrees b p.1))
+      (agrees_both env (rules.block a) (rules.block b) yes_ other (block_agrees a p.0) (block_agrees b p.1))
   node_agrees (stmt.While e a) place p =
       said_of_both env (rules.tested e) (rules.block a) (checks.tested env e) (checks.block (map (typed_statement env) a)) (λ q. fine (Loop (If q.0 q.1 (Break ∷ []) ∷ []))) (tested env e) (block_agrees a p)
   node_agrees stmt.Break place p = agrees_says env (fine Break)

@@ -1,6 +1,6 @@
 -- Every expression is judged as its rule says.
-use Rattle.std.proofs.Common.{◌≡◌, sym, subst, ap}
-use Rattle.vd_clight.specs.declared.syntax.Expr.{Expr, Expr-F, ind-Expr, roll-Expr, out-Expr, out-roll-Expr, map-Expr}
+use Rattle.std.proofs.Common.{◌≡◌, sym, subst}
+use Rattle.vd_clight.specs.declared.syntax.Expr.{Expr, Expr-F, ind-Expr, roll-Expr, out-roll-Expr, map-Expr}
 use Rattle.vd_clight.specs.declared.syntax.ExprNode.{ExprNode, ExprNode-F, roll-ExprNode, out-ExprNode, out-roll-ExprNode, map-ExprNode}
 use Rattle.vd_clight.specs.declared.syntax.ExprNode.TheOpen as node
 use Rattle.vd_ctyping.specs.Environment.{Environment}

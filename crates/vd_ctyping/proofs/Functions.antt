@@ -1,5 +1,5 @@
 -- Functions: the answer is the typed function or its first fault.
-use Rattle.std.proofs.Common.{◌≡◌, ◌⊎◌, Bool, true, false, cond, List, Option, None, Some, Result, Ok, Err, refl, sym, ap, ◌∙◌, subst, inl, inr}
+use Rattle.std.proofs.Common.{◌≡◌, ◌⊎◌, Bool, true, false, cond, List, None, Some, Result, Ok, Err, refl, sym, ap, ◌∙◌, subst, inl, inr}
 use Rattle.vd_base.specs.declared.ctype.CType.{Void}
 use Rattle.vd_clight.specs.declared.program.CScope.{CScope}
 use Rattle.vd_clight.specs.declared.syntax.FnText.{FnText}
@@ -10,10 +10,10 @@ use Rattle.vd_ctyping.specs.declared.checked.Checked.TheVariants.{Typed, Untyped
 use Rattle.vd_ctyping.specs.declared.fault.TypeFault.{TypeFault}
 use Rattle.vd_ctyping.specs.declared.fault.TypeFault.TheVariants as fault
 use Rattle.vd_ctyping.specs.Checked.{fine, follows}
-use Rattle.vd_ctyping.specs.Environment.{Environment}
-use Rattle.vd_ctyping.specs.Derivation.{Derives, Faulty, Gives}
-use Rattle.vd_ctyping.specs.Function.{are_declared, environment, with_body, finished, body_of, typed_function}
-use Rattle.vd_ctyping.specs.Rule.{Rule, says, rests}
+use Rattle.vd_ctyping.specs.Derivation.{Gives}
+use Rattle.vd_ctyping.specs.Function.{are_declared, environment, with_body}
+use Rattle.vd_ctyping.specs.CheckedFunction.{finished, body_of, typed_function}
+use Rattle.vd_ctyping.specs.Rule.{says, rests}
 use Rattle.vd_ctyping.specs.Rules.{block, declared, function_rule}
 use Rattle.vd_ctyping.specs.Typing.{IsTyped, IsFault, IsFirstFault, Answers, TypedOnce, TypedHasNoFault, TypedOrFaulty}
 use Rattle.vd_ctyping.proofs.Agreement.{Agrees, agrees_says, agrees_rests}
@@ -56,7 +56,7 @@ function_agrees : (scope : CScope) (f : FnText) → Agrees (environment scope f)
 function_agrees scope f =
     let env = environment scope f in
     agrees_rests env (declared f) (λ d. rests (block f.body) (λ body. says (fine (with_body f body)))) (λ d. with_it f (body_of scope f))
-      (λ d. said_on env (block f.body) (body_of scope f) (λ b. fine (with_body f b)) (body_agrees env f.body)) (declaring f) (agrees_says env (declaring f))
+    (λ d. said_on env (block f.body) (body_of scope f) (λ b. fine (with_body f b)) (body_agrees env f.body)) (declaring f) (agrees_says env (declaring f))
 
 first_answered : (scope : CScope) (f : FnText) (g : TypeFault) → IsFirstFault scope f g → Answers scope f (Err g)
 first_answered scope f (fault.Unknown place name) h = h

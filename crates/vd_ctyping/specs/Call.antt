@@ -1,5 +1,5 @@
 -- Calls: of functions, of what is built in, of `malloc` and of `spawn`.
-use Rattle.std.specs.Prelude.{ℕ, ◌+◌, ◌==◌, Bool, false, cond, List, [], ◌∷◌, codes, Option, None, Some, option_map, length, slice_get, if◌then◌else◌}
+use Rattle.std.specs.Prelude.{ℕ, ◌==◌, Bool, false, cond, List, [], ◌∷◌, codes, Option, None, Some, option_map, length, slice_get, if◌then◌else◌}
 use Rattle.std.specs.Str.{bytes_eq}
 use Rattle.vd_base.specs.declared.ctype.CType.{CType, Void, Lock}
 use Rattle.vd_base.specs.declared.ctype.Field.{Field}
@@ -9,7 +9,7 @@ use Rattle.vd_clight.specs.declared.syntax.ExprNode.{ExprNode, ExprNode-F, out-E
 use Rattle.vd_clight.specs.declared.syntax.ExprNode.TheOpen as node
 use Rattle.vd_clight.specs.declared.typed.LockOp.TheVariants as lock
 use Rattle.vd_clight.specs.declared.typed.TExpr.{TExpr}
-use Rattle.vd_clight.specs.declared.typed.TStmt.{TStmt, Skip, Call, Malloc, Free, Spawn}
+use Rattle.vd_clight.specs.declared.typed.TStmt.{TStmt, Skip, Malloc, Free}
 use Rattle.vd_clight.specs.declared.typed.TStmt.{Lock as LockStatement}
 use Rattle.vd_ctyping.specs.declared.builtin.Builtin.{Builtin}
 use Rattle.vd_ctyping.specs.declared.builtin.Builtin.TheVariants as builtin
@@ -17,15 +17,13 @@ use Rattle.vd_ctyping.specs.declared.fault.TypeFault.{TypeFault}
 use Rattle.vd_ctyping.specs.declared.fault.TypeFault.TheVariants as fault
 use Rattle.vd_ctyping.specs.declared.checked.Checked.{Checked}
 use Rattle.vd_ctyping.specs.declared.checked.Checked.TheVariants.{Typed, Untyped}
-use Rattle.vd_ctyping.specs.declared.found.Found.{Found}
 use Rattle.vd_ctyping.specs.declared.found.Operand.{Operand}
 use Rattle.vd_ctyping.specs.declared.found.Destination.{Destination}
 use Rattle.vd_ctyping.specs.declared.found.Destination.TheVariants as to
 use Rattle.vd_ctyping.specs.declared.found.Target.{Target}
-use Rattle.vd_ctyping.specs.Checked.{fine, unless, where_fine, follows, pair, added}
-use Rattle.vd_ctyping.specs.Environment.{Environment, function_of}
-use Rattle.vd_ctyping.specs.Expression.{judged}
-use Rattle.vd_ctyping.specs.Found.{operand_of, left_side, pointer_to}
+use Rattle.vd_ctyping.specs.Checked.{fine, unless, where_fine}
+use Rattle.vd_ctyping.specs.Environment.{Environment}
+use Rattle.vd_ctyping.specs.Found.{pointer_to}
 use Rattle.vd_ctyping.specs.Operation.{wants}
 use Rattle.vd_ctyping.specs.Place.{cells}
 use Rattle.vd_ctyping.specs.Types.{converts, is_void}
@@ -47,17 +45,9 @@ abbrev pub passed_by : Option CType → Operand → Checked TExpr
 passed_by None o = fine o.value
 passed_by (Some t) o = unless (wants t o) o.value
 
-abbrev pub passed : Option CType → Checked Found → Checked TExpr
-passed t part = follows (operand_of part) (passed_by t)
-
 -- the type of a parameter
 abbrev pub wanted_at : List Field → ℕ → Option CType
 wanted_at params k = option_map (λ f. f.typ) (slice_get params k)
-
--- the arguments from the k-th on, behind those that are there
-abbrev pub arguments : Environment → List Field → ℕ → Checked (List TExpr) → List Expr → Checked (List TExpr)
-arguments env params k sofar [] = sofar
-arguments env params k sofar (e ∷ es) = arguments env params (k + 1) (added sofar (passed (wanted_at params k) (judged env e))) es
 
 -- ---- results
 
@@ -78,14 +68,6 @@ abbrev pub delivered : ℕ → CType → Option Target → Checked (Option ℕ)
 delivered place typ None = fine None
 delivered place typ (Some t) = where_fine (wants_type place t.typ typ) (delivered_to t.place t.to)
 
-abbrev pub destination : Environment → Option Expr → Checked (Option Target)
-destination env None = fine None
-destination env (Some e) = follows (left_side (judged env e)) (λ t. fine (Some t))
-
--- the temporary that a call's result goes to, where the call gives a type
-abbrev pub result_of : Environment → ℕ → Option Expr → Checked CType → Checked (Option ℕ)
-result_of env place target typ = follows (pair (destination env target) typ) (λ p. delivered place p.1 p.0)
-
 -- ---- functions
 
 abbrev pub wants_count : ℕ → ℕ → ℕ → Option TypeFault
@@ -99,11 +81,6 @@ known place name count (Some s) = unless (wants_count place (length s.params) co
 abbrev pub params_of : Option Signature → List Field
 params_of None = []
 params_of (Some s) = s.params
-
-abbrev pub call_function : Environment → ℕ → Option Expr → List ℕ → List Expr → Checked TStmt
-call_function env place target name args =
-    follows (pair (result_of env place target (known place name (length args) (function_of env name))) (arguments env (params_of (function_of env name)) 0 (fine []) args))
-    (λ p. fine (Call p.0 name p.1))
 
 -- ---- what is built in
 
@@ -125,14 +102,6 @@ abbrev pub builtin_statement : Builtin → TExpr → TStmt
 builtin_statement builtin.Free e = Free e
 builtin_statement (builtin.Lock o) e = LockStatement o e
 
-abbrev pub argument : Environment → ℕ → CType → Option Expr → Checked TExpr
-argument env place t None = Untyped (disagrees place)
-argument env place t (Some e) = passed (Some t) (judged env e)
-
-abbrev pub call_builtin : Environment → ℕ → Option Expr → Builtin → List Expr → Checked TStmt
-call_builtin env place target b args =
-    follows (pair (result_of env place target (fine Void)) (argument env place (parameter_of b) (one_of args))) (λ p. fine (builtin_statement b p.1))
-
 -- ---- `malloc`
 
 abbrev pub size_node : ExprNode-F ExprNode Expr → Option CType
@@ -151,18 +120,10 @@ abbrev pub malloc_cells : Environment → ℕ → Option Expr → Checked ℕ
 malloc_cells env place None = Untyped (disagrees place)
 malloc_cells env place (Some e) = malloc_by env place e.place (size_named e)
 
--- its result has to go somewhere
-abbrev pub malloc_result : Environment → ℕ → Option Expr → Checked (Option ℕ)
-malloc_result env place None = Untyped (disagrees place)
-malloc_result env place (Some e) = result_of env place (Some e) (fine (pointer_to Void))
-
 -- without a temporary there is a fault, and no statement
 abbrev pub malloc_statement : Option ℕ → ℕ → TStmt
 malloc_statement None n = Skip
 malloc_statement (Some x) n = Malloc x n
-
-abbrev pub call_malloc : Environment → ℕ → Option Expr → List Expr → Checked TStmt
-call_malloc env place target args = follows (pair (malloc_result env place target) (malloc_cells env place (one_of args))) (λ p. fine (malloc_statement p.0 p.1))
 
 -- ---- `spawn`
 
@@ -182,33 +143,3 @@ starts_with at void (Some p) = cond void (fine p.typ) (Untyped (disagrees at))
 abbrev pub starts_by : ℕ → List ℕ → Option Signature → Checked CType
 starts_by at name None = Untyped (fault.Unknown at name)
 starts_by at name (Some s) = starts_with at (is_void s.ret) (one_of s.params)
-
--- the argument that a thread starts with
-abbrev pub spawned : Environment → ℕ → List ℕ → Expr → Checked TExpr
-spawned env at name e = follows (pair (starts_by at name (function_of env name)) (operand_of (judged env e))) (λ p. passed_by (Some p.0) p.1)
-
-abbrev pub spawn_named : Environment → ℕ → Option Expr → ℕ → List ℕ → Expr → Checked TStmt
-spawn_named env place target at name e = follows (pair (result_of env place target (fine Void)) (spawned env at name e)) (λ p. fine (Spawn name p.1))
-
-abbrev pub spawn_with : Environment → ℕ → Option Expr → Expr → Expr → Option (List ℕ) → Checked TStmt
-spawn_with env place target f e None = Untyped (disagrees place)
-spawn_with env place target f e (Some name) = spawn_named env place target f.place name e
-
-abbrev pub spawn_by : Environment → ℕ → Option Expr → Option (Expr × Expr) → Checked TStmt
-spawn_by env place target None = Untyped (disagrees place)
-spawn_by env place target (Some p) = spawn_with env place target p.0 p.1 (name_of p.0)
-
-abbrev pub call_spawn : Environment → ℕ → Option Expr → List Expr → Checked TStmt
-call_spawn env place target args = spawn_by env place target (two_of args)
-
--- ---- calls
-
-abbrev pub call_by : Environment → ℕ → Option Expr → List ℕ → List Expr → Option Builtin → Checked TStmt
-call_by env place target name args None = call_function env place target name args
-call_by env place target name args (Some b) = call_builtin env place target b args
-
-abbrev pub call : Environment → ℕ → Option Expr → List ℕ → List Expr → Checked TStmt
-call env place target name args =
-    if bytes_eq name (codes "malloc") then call_malloc env place target args
-    else if bytes_eq name (codes "spawn") then call_spawn env place target args
-    else call_by env place target name args (builtin_of name)

@@ -14,7 +14,7 @@ use Rattle.vd_ctyping.specs.declared.found.Operand.{Operand}
 use Rattle.vd_ctyping.specs.declared.found.Condition.{Condition}
 use Rattle.vd_ctyping.specs.declared.found.Destination.TheVariants as to
 use Rattle.vd_ctyping.specs.declared.found.Target.{Target}
-use Rattle.vd_ctyping.specs.Checked.{fine, follows}
+use Rattle.vd_ctyping.specs.Checked.{fine}
 use Rattle.vd_ctyping.specs.Types.{element_of, is_integer, is_pointer, is_scalar, kind_of}
 
 -- ---- values
@@ -45,9 +45,6 @@ value_by place typ (form.Test at a b equal) = stands_for place at typ
 abbrev pub as_operand : Found → Checked Operand
 as_operand f = value_by f.place f.typ f.form
 
-abbrev pub operand_of : Checked Found → Checked Operand
-operand_of part = follows part as_operand
-
 -- ---- conditions
 
 -- an integer is compared with 0, and a pointer with null
@@ -56,23 +53,6 @@ truth o =
     if is_integer o.typ then fine (record { place = o.place; test = test.Int (kind_of o.typ) o.value })
     else if is_pointer o.typ then fine (record { place = o.place; test = test.Same o.value (Const 0) false })
     else Untyped (fault.Mismatch o.place Void o.typ)
-
-abbrev pub truth_of : Found → Checked Condition
-truth_of f = follows (as_operand f) truth
-
-abbrev pub condition_by : Found → Form → Checked Condition
-condition_by f form.Zero = truth_of f
-condition_by f (form.Value e) = truth_of f
-condition_by f (form.Temporary x) = truth_of f
-condition_by f (form.Memory l) = truth_of f
-condition_by f (form.Test at a b equal) = fine (record { place = at; test = test.Same a b equal })
-
--- an expression that is tested
-abbrev pub as_condition : Found → Checked Condition
-as_condition f = condition_by f f.form
-
-abbrev pub condition_of : Checked Found → Checked Condition
-condition_of part = follows part as_condition
 
 -- ---- targets
 
@@ -90,6 +70,3 @@ target_by place typ (form.Test at a b equal) = Untyped (fault.Mismatch place Voi
 -- an expression to which a value goes: a temporary, or a place in memory
 abbrev pub as_target : Found → Checked Target
 as_target f = target_by f.place f.typ f.form
-
-abbrev pub left_side : Checked Found → Checked Target
-left_side part = follows part as_target

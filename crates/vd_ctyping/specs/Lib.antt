@@ -1,8 +1,11 @@
 pub mod Call
 pub mod Checked
+pub mod CheckedCall
+pub mod CheckedExpression
+pub mod CheckedFunction
+pub mod CheckedStatement
 pub mod Derivation
 pub mod Environment
-pub mod Expression
 pub mod Fault
 pub mod Found
 pub mod Function
@@ -12,6 +15,5 @@ pub mod Place
 pub mod Rule
 pub mod Rules
 pub mod Sort
-pub mod Statement
 pub mod Types
 pub mod Typing

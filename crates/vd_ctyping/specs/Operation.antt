@@ -3,7 +3,6 @@ use Rattle.std.specs.Prelude.{ℕ, Bool, true, false, not, cond, ◌&&◌, ◌||
 use Rattle.vd_base.specs.declared.ctype.CType.{CType, Void, Int, Unsigned}
 use Rattle.vd_clight.specs.declared.syntax.BinOp.{BinOp}
 use Rattle.vd_clight.specs.declared.syntax.BinOp.TheVariants as op
-use Rattle.vd_clight.specs.declared.syntax.UnOp.{UnOp}
 use Rattle.vd_clight.specs.declared.syntax.UnOp.TheVariants as prefix
 use Rattle.vd_clight.specs.declared.typed.Cond.{Cond}
 use Rattle.vd_clight.specs.declared.typed.Cond.TheVariants as test
@@ -19,8 +18,7 @@ use Rattle.vd_ctyping.specs.declared.found.Form.TheVariants as form
 use Rattle.vd_ctyping.specs.declared.found.Found.{Found}
 use Rattle.vd_ctyping.specs.declared.found.Operand.{Operand}
 use Rattle.vd_ctyping.specs.declared.found.Condition.{Condition}
-use Rattle.vd_ctyping.specs.Checked.{fine, unless, follows, pair}
-use Rattle.vd_ctyping.specs.Found.{operand_of, condition_of}
+use Rattle.vd_ctyping.specs.Checked.{fine, unless}
 use Rattle.vd_ctyping.specs.Types.{is_integer, is_scalar, is_unsigned, converts, castable, kind_of}
 
 -- ---- what operands have to be; each disagrees for itself, whatever the other one is
@@ -34,15 +32,6 @@ as_unsigned o = cond (is_unsigned o.typ) (fine o) (Untyped (fault.Mismatch o.pla
 -- an integer or a pointer
 abbrev pub as_scalar : Operand → Checked Operand
 as_scalar o = cond (is_scalar o.typ) (fine o) (Untyped (fault.Mismatch o.place Void o.typ))
-
-abbrev pub integer_of : Checked Found → Checked Operand
-integer_of part = follows (operand_of part) as_integer
-
-abbrev pub unsigned_of : Checked Found → Checked Operand
-unsigned_of part = follows (operand_of part) as_unsigned
-
-abbrev pub scalar_of : Checked Found → Checked Operand
-scalar_of part = follows (operand_of part) as_scalar
 
 -- of two integers in a bit operation one is unsigned, else the first disagrees
 abbrev pub wants_bits : Operand → Operand → Option TypeFault
@@ -81,11 +70,6 @@ negation_by place at (test.Same a b equal) = fine (record { place = place; typ =
 
 abbrev pub negation : ℕ → Condition → Checked Found
 negation place c = negation_by place c.place c.test
-
-abbrev pub judge_unary : UnOp → ℕ → Checked Found → Checked Found
-judge_unary prefix.Minus place part = follows (integer_of part) (opposite place)
-judge_unary prefix.Not place part = follows (condition_of part) (negation place)
-judge_unary prefix.Invert place part = follows (unsigned_of part) (complement place)
 
 -- ---- two operands
 
@@ -130,20 +114,6 @@ class_of op.Le = class.Order
 class_of op.Gt = class.Order
 class_of op.Ge = class.Order
 
-abbrev pub left_of : Class → Checked Found → Checked Operand
-left_of class.Arithmetic part = integer_of part
-left_of class.Bits part = integer_of part
-left_of class.Shift part = unsigned_of part
-left_of class.Order part = integer_of part
-left_of (class.Equality equal) part = scalar_of part
-
-abbrev pub right_of : Class → Checked Found → Checked Operand
-right_of class.Arithmetic part = integer_of part
-right_of class.Bits part = integer_of part
-right_of class.Shift part = integer_of part
-right_of class.Order part = integer_of part
-right_of (class.Equality equal) part = scalar_of part
-
 abbrev pub binary : Class → BinOp → ℕ → Operand × Operand → Checked Found
 binary class.Arithmetic o place p = arithmetic o place p
 binary class.Bits o place p = bitwise o place p
@@ -151,14 +121,8 @@ binary class.Shift o place p = shift o place p
 binary class.Order o place p = comparison o place p
 binary (class.Equality equal) o place p = equality o equal place p
 
-abbrev pub judge_binary : BinOp → ℕ → Checked Found → Checked Found → Checked Found
-judge_binary o place left right = follows (pair (left_of (class_of o) left) (right_of (class_of o) right)) (binary (class_of o) o place)
-
 -- ---- casts
 
 -- a cast changes the type alone
 abbrev pub cast : ℕ → CType → Operand → Checked Found
 cast place t o = unless (wants_cast t o) (computed place t o.value)
-
-abbrev pub judge_cast : ℕ → CType → Checked Found → Checked Found
-judge_cast place t part = follows (operand_of part) (cast place t)

@@ -1,5 +1,5 @@
 -- Numbers, variables, sizes and places in memory.
-use Rattle.std.specs.Prelude.{ℕ, ◌*◌, ◌≤◌, ⊤, ◌==◌, Bool, cond, List, [], ◌∷◌, ◌++◌, Option, None, Some, option_map, option_and_then, if◌then◌else◌}
+use Rattle.std.specs.Prelude.{ℕ, ◌*◌, ◌≤◌, ⊤, ◌==◌, Bool, cond, List, [], ◌∷◌, ◌++◌, Option, None, Some, option_map, option_and_then}
 use Rattle.std.specs.Option.{is_some}
 use Rattle.vd_base.specs.declared.ctype.CType.{CType, Void, Int, Unsigned}
 use Rattle.vd_base.specs.Layout.{Table, most_cells, size_of, slot_of, typ_of}
@@ -20,7 +20,7 @@ use Rattle.vd_ctyping.specs.declared.found.Operand.{Operand}
 use Rattle.vd_ctyping.specs.declared.place.Pointer.{Pointer}
 use Rattle.vd_ctyping.specs.Checked.{fine, follows}
 use Rattle.vd_ctyping.specs.Environment.{Environment, local_of, global_of}
-use Rattle.vd_ctyping.specs.Found.{operand_of, pointer_to}
+use Rattle.vd_ctyping.specs.Found.{pointer_to}
 use Rattle.vd_ctyping.specs.Operation.{computed}
 use Rattle.vd_ctyping.specs.Types.{is_void, target_of, struct_of, kind_of, holds_of}
 
@@ -113,9 +113,6 @@ pointer_by o (Some t) (Some l) = fine (record { place = o.place; typ = o.typ; ta
 abbrev pub as_pointer : Operand → Checked Pointer
 as_pointer o = pointer_by o (target_of o.typ) (address_in o.value)
 
-abbrev pub pointer_of : Checked Found → Checked Pointer
-pointer_of part = follows (operand_of part) as_pointer
-
 -- ---- `* e`
 
 abbrev pub pointed : ℕ → Pointer → Checked Found
@@ -129,10 +126,6 @@ is_one_cell structs t = holds_of (size_of structs t) (λ n. n == 1)
 
 abbrev pub as_elements : Table → Pointer → Checked Pointer
 as_elements structs p = cond (is_one_cell structs p.target) (fine p) (Untyped (no_place p.place p.typ))
-
--- a pointer to elements
-abbrev pub elements_of : Table → Checked Found → Checked Pointer
-elements_of structs part = follows (pointer_of part) (as_elements structs)
 
 abbrev pub element : ℕ → Pointer × Operand → Checked Found
 element place p = fine (in_memory place p.0.target (stepped (Index (kind_of p.1.typ) p.1.value) p.0.to))

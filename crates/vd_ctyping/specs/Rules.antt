@@ -4,7 +4,6 @@ use Rattle.std.specs.Str.{bytes_eq}
 use Rattle.vd_base.specs.declared.ctype.CType.{CType, Void}
 use Rattle.vd_base.specs.declared.ctype.Field.{Field}
 use Rattle.vd_base.specs.Layout.{Table}
-use Rattle.vd_clight.specs.declared.program.CScope.{CScope}
 use Rattle.vd_clight.specs.declared.syntax.Expr.{Expr}
 use Rattle.vd_clight.specs.declared.syntax.ExprNode.{ExprNode, ExprNode-F, out-ExprNode}
 use Rattle.vd_clight.specs.declared.syntax.ExprNode.TheOpen as node
@@ -25,14 +24,13 @@ use Rattle.vd_ctyping.specs.declared.found.Destination.TheVariants as to
 use Rattle.vd_ctyping.specs.declared.found.Form.{Form}
 use Rattle.vd_ctyping.specs.declared.found.Form.TheVariants as form
 use Rattle.vd_ctyping.specs.declared.found.Found.{Found}
-use Rattle.vd_ctyping.specs.declared.found.Target.{Target}
 use Rattle.vd_ctyping.specs.declared.operation.Class.{Class}
 use Rattle.vd_ctyping.specs.declared.operation.Class.TheVariants as class
 use Rattle.vd_ctyping.specs.Call.{one_of, two_of, passed_by, wanted_at, disagrees, wants_type, delivered, known, params_of, builtin_of, parameter_of, builtin_statement, malloc_cells, malloc_statement, name_of, starts_by}
 use Rattle.vd_ctyping.specs.Checked.{fine, unless, with_last}
 use Rattle.vd_ctyping.specs.Environment.{Environment, function_of}
 use Rattle.vd_ctyping.specs.Found.{as_operand, truth, as_target, pointer_to}
-use Rattle.vd_ctyping.specs.Function.{are_declared, environment, with_body}
+use Rattle.vd_ctyping.specs.Function.{are_declared, with_body}
 use Rattle.vd_ctyping.specs.Operation.{as_integer, as_unsigned, as_scalar, wants, opposite, complement, negation, class_of, binary, cast}
 use Rattle.vd_ctyping.specs.Place.{number, variable, sized, aligned, dot, as_pointer, as_elements, arrow, element, pointed, address}
 use Rattle.vd_ctyping.specs.Rule.{Rule, says, expression, statement, rests, beside}
@@ -196,16 +194,17 @@ started env at name = says (starts_by at name (function_of env name))
 abbrev pub spawned : Environment → ℕ → List ℕ → Expr → Rule sort.value
 spawned env at name e = rests (beside (started env at name) (a_value (expression e))) (λ p. says (passed_by (Some p.0) p.1))
 
-abbrev pub spawn_named : Environment → ℕ → Option Expr → ℕ → List ℕ → Expr → Rule sort.statement
-spawn_named env place target at name e = rests (beside (result_of place target (says (fine Void))) (spawned env at name e)) (λ p. says (fine (Spawn name p.1)))
+-- the function that a thread runs, and its argument
+abbrev pub thread_named : Environment → ℕ → Expr → Expr → Option (List ℕ) → Rule sort.thread
+thread_named env place f e None = says (Untyped (disagrees place))
+thread_named env place f e (Some name) = rests (spawned env f.place name e) (λ v. says (fine (name, v)))
 
-abbrev pub spawn_with : Environment → ℕ → Option Expr → Expr → Expr → Option (List ℕ) → Rule sort.statement
-spawn_with env place target f e None = says (Untyped (disagrees place))
-spawn_with env place target f e (Some name) = spawn_named env place target f.place name e
+abbrev pub thread : Environment → ℕ → Option (Expr × Expr) → Rule sort.thread
+thread env place None = says (Untyped (disagrees place))
+thread env place (Some p) = thread_named env place p.0 p.1 (name_of p.0)
 
-abbrev pub spawn_by : Environment → ℕ → Option Expr → Option (Expr × Expr) → Rule sort.statement
-spawn_by env place target None = says (Untyped (disagrees place))
-spawn_by env place target (Some p) = spawn_with env place target p.0 p.1 (name_of p.0)
+abbrev pub call_spawn : Environment → ℕ → Option Expr → List Expr → Rule sort.statement
+call_spawn env place target args = rests (beside (result_of place target (says (fine Void))) (thread env place (two_of args))) (λ p. says (fine (Spawn p.1.0 p.1.1)))
 
 abbrev pub call_by : Environment → ℕ → Option Expr → List ℕ → List Expr → Option Builtin → Rule sort.statement
 call_by env place target name args None = call_function env place target name args
@@ -214,7 +213,7 @@ call_by env place target name args (Some b) = call_builtin place target b args
 abbrev pub call_rule : Environment → ℕ → Option Expr → List ℕ → List Expr → Rule sort.statement
 call_rule env place target name args =
     if bytes_eq name (codes "malloc") then call_malloc env place target args
-    else if bytes_eq name (codes "spawn") then spawn_by env place target (two_of args)
+    else if bytes_eq name (codes "spawn") then call_spawn env place target args
     else call_by env place target name args (builtin_of name)
 
 -- ---- statements

@@ -29,6 +29,8 @@ pub data Sort : Type 0 where
   value : Sort
   values : Sort
   test : Sort
+  -- the function that a thread runs, and its argument
+  thread : Sort
   statement : Sort
   statements : Sort
   function : Sort
@@ -49,6 +51,7 @@ Meaning cells = ℕ
 Meaning value = TExpr
 Meaning values = List TExpr
 Meaning test = Cond
+Meaning thread = List ℕ × TExpr
 Meaning statement = TStmt
 Meaning statements = List TStmt
 Meaning function = TypedFn

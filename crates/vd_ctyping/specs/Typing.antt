@@ -1,5 +1,5 @@
 -- What `type_fn` answers.
-use Rattle.std.specs.Prelude.{◌≡◌, ◌⊎◌, Bool, true, false, List, Result, Ok, Err, ⊤}
+use Rattle.std.specs.Prelude.{◌≡◌, ◌⊎◌, Bool, true, List, Result, Ok, Err, ⊤}
 use Rattle.vd_clight.specs.declared.program.CScope.{CScope}
 use Rattle.vd_clight.specs.declared.syntax.FnText.{FnText}
 use Rattle.vd_clight.specs.declared.typed.TypedFn.{TypedFn}

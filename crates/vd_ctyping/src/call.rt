@@ -2,7 +2,8 @@
 
 ghost use Rattle.std.specs.Prelude.{◌≡◌, option_map, option_copied, [], IfOk};
 ghost use Rattle.vd_ctyping.specs.Checked.{fine};
-ghost use Rattle.vd_ctyping.specs.Call.{one_of, two_of, passed_by, passed, wanted_at, arguments, disagrees, wants_type, delivered_to, delivered, destination, result_of, known, params_of, call_function, argument, call_builtin, size_named, malloc_cells, malloc_result, malloc_statement, call_malloc};
+ghost use Rattle.vd_ctyping.specs.Call.{one_of, two_of, passed_by, wanted_at, disagrees, wants_type, delivered_to, delivered, known, params_of, size_named, malloc_cells, malloc_statement};
+ghost use Rattle.vd_ctyping.specs.CheckedCall.{passed, arguments, destination, result_of, call_function, argument, call_builtin, malloc_result, call_malloc};
 
 use crate::builtin::{Builtin, builtin_of, builtin_statement, parameter_of};
 use crate::checked::{Checked, added, also, fine, pair, unless};

@@ -1,7 +1,7 @@
 //! Types of expressions.
 
 ghost use Rattle.std.specs.Prelude.{◌≡◌, IfOk};
-ghost use Rattle.vd_ctyping.specs.Expression.{judged};
+ghost use Rattle.vd_ctyping.specs.CheckedExpression.{judged};
 
 use crate::checked::{Checked, fine};
 use crate::found::Found;
@@ -15,7 +15,7 @@ use std::alloc::{AllocError, Global};
 use vd_clight::{Expr, ExprNode};
 
 /// What an expression denotes, or its first fault.
-#[tactic(auto, unfolding(crate::specs::Expression::judged))]
+#[tactic(auto, unfolding(crate::specs::CheckedExpression::judged))]
 pub(crate) fn judge(
     alloc: Global,
     scope: &Scope<'_>,

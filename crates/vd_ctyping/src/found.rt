@@ -1,7 +1,8 @@
 //! What an expression is found to be, and what it is where a value, a condition or a target is wanted.
 
 ghost use Rattle.std.specs.Prelude.{◌≡◌, IfOk};
-ghost use Rattle.vd_ctyping.specs.Found.{as_operand, read, stands_for, operand_of, as_condition, truth, truth_of, condition_of, as_target, stored, left_side, pointer_to};
+ghost use Rattle.vd_ctyping.specs.Found.{as_operand, read, stands_for, truth, as_target, stored, pointer_to};
+ghost use Rattle.vd_ctyping.specs.CheckedExpression.{operand_of, as_condition, truth_of, condition_of, left_side};
 
 use crate::checked::{Checked, also, fine};
 use crate::fault::TypeFault;

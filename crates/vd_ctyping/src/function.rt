@@ -2,7 +2,8 @@
 
 ghost use Rattle.std.specs.Prelude.{◌≡◌, ◌++◌, ◌∷◌, ◌<◌, ◌+◌, ◌^◌, nat_lt, length, IfOk, OnOk};
 ghost use Rattle.vd_ctyping.specs.Environment.{names_of, global_names, function_names};
-ghost use Rattle.vd_ctyping.specs.Function.{are_scalars, is_result, are_declared, are_distinct, variables, body_of, finished, typed_function};
+ghost use Rattle.vd_ctyping.specs.Function.{are_scalars, is_result, are_declared, are_distinct, variables};
+ghost use Rattle.vd_ctyping.specs.CheckedFunction.{body_of, finished, typed_function};
 ghost use Rattle.vd_ctyping.specs.NameTable.{Numbers};
 ghost use Rattle.vd_ctyping.specs.Typing.{Answers};
 

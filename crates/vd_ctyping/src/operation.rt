@@ -2,7 +2,8 @@
 
 ghost use Rattle.std.specs.Prelude.{◌≡◌, IfOk};
 ghost use Rattle.vd_clight.specs.declared.typed.TExpr.{Binary};
-ghost use Rattle.vd_ctyping.specs.Operation.{as_integer, as_unsigned, as_scalar, integer_of, unsigned_of, scalar_of, wants_bits, wants, wants_cast, wants_alike, computed, common, opposite, complement, negation, judge_unary, arithmetic, bitwise, shift, comparison, equality, class_of, left_of, right_of, binary, judge_binary, cast, judge_cast, comparable};
+ghost use Rattle.vd_ctyping.specs.Operation.{as_integer, as_unsigned, as_scalar, wants_bits, wants, wants_cast, wants_alike, computed, common, opposite, complement, negation, arithmetic, bitwise, shift, comparison, equality, class_of, binary, cast, comparable};
+ghost use Rattle.vd_ctyping.specs.CheckedExpression.{integer_of, unsigned_of, scalar_of, judge_unary, left_of, right_of, judge_binary, judge_cast};
 
 use crate::checked::{Checked, also, fine, pair, unless};
 use crate::fault::TypeFault;

@@ -3,8 +3,8 @@
 ghost use Rattle.std.specs.Prelude.{◌≡◌, ◌≤◌, option_map, IfOk, IfSome, [], ◌*◌, ◌^◌, ◌<◌};
 ghost use Rattle.vd_base.specs.Layout.{most_cells, size_of};
 ghost use Rattle.vd_ctyping.specs.Checked.{follows, pair};
-ghost use Rattle.vd_ctyping.specs.Operation.{integer_of};
-ghost use Rattle.vd_ctyping.specs.Place.{number, cells, IsSmall, sized, aligned, variable, global_found, in_memory, lval, address_in, stepped, as_pointer, pointer_of, pointed, is_one_cell, as_elements, elements_of, element, selected, field_in, unknown_name, dot, arrow, address};
+ghost use Rattle.vd_ctyping.specs.CheckedExpression.{integer_of, pointer_of, elements_of};
+ghost use Rattle.vd_ctyping.specs.Place.{number, cells, IsSmall, sized, aligned, variable, global_found, in_memory, lval, address_in, stepped, as_pointer, pointed, is_one_cell, as_elements, element, selected, field_in, unknown_name, dot, arrow, address};
 
 use crate::checked::{Checked, also, fine, pair};
 use crate::fault::TypeFault;

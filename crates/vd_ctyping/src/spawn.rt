@@ -1,7 +1,8 @@
 //! Calls of `spawn`, and which kind of call a name stands for.
 
-ghost use Rattle.std.specs.Prelude.{◌≡◌, option_copied, IfOk};
-ghost use Rattle.vd_ctyping.specs.Call.{name_of, starts_by, spawned, spawn_named, call_spawn, call};
+ghost use Rattle.std.specs.Prelude.{◌≡◌, option_copied, option_map, IfOk};
+ghost use Rattle.vd_ctyping.specs.Call.{name_of, starts_by};
+ghost use Rattle.vd_ctyping.specs.CheckedCall.{spawned, thread, call_spawn, call};
 
 use crate::builtin::builtin_of;
 use crate::call::{
@@ -74,26 +75,27 @@ fn spawned(
     }
 }
 
-fn spawn_named(
+/// The function that a thread runs, and its argument.
+fn thread(
     alloc: Global,
     scope: &Scope<'_>,
     place: u32,
-    target: Option<&Expr>,
-    at: u32,
-    name: &Name,
-    e: &Expr,
-) -> Result<Checked<TStmt>, AllocError>
-    ensures { IfOk result (λ s. s ≡ spawn_named scope.now place (option_copied target.entry) at name.now e.now) }
+    both: Option<(&Expr, &Expr)>,
+) -> Result<Checked<(Name, TExpr)>, AllocError>
+    ensures { IfOk result (λ t. t ≡ thread scope.now place (option_map (λ p. (p.0.now, p.1.now)) both.entry)) }
 {
-    let to = result_of(alloc, scope, place, target, fine(CType::Void))?;
-    let value = spawned(alloc, scope, at, name, e)?;
-    match pair(to, value) {
-        Checked::Untyped(fault) => Ok(Checked::Untyped(fault)),
-        Checked::Typed(both, fault) => {
-            let (_, value) = both;
-            let name = name.copy(alloc)?;
-            Ok(also(fault, fine(TStmt::Spawn(name, value))))
-        }
+    match both {
+        None => Ok(Checked::Untyped(disagrees(place))),
+        Some(both) => match name_of(both.0) {
+            None => Ok(Checked::Untyped(disagrees(place))),
+            Some(name) => match spawned(alloc, scope, both.0.place, name, both.1)? {
+                Checked::Untyped(fault) => Ok(Checked::Untyped(fault)),
+                Checked::Typed(value, fault) => {
+                    let name = name.copy(alloc)?;
+                    Ok(also(fault, fine((name, value))))
+                }
+            },
+        },
     }
 }
 
@@ -106,12 +108,15 @@ fn call_spawn(
 ) -> Result<Checked<TStmt>, AllocError>
     ensures { IfOk result (λ s. s ≡ call_spawn scope.now place (option_copied target.entry) args.now) }
 {
-    match two(args) {
-        None => Ok(Checked::Untyped(disagrees(place))),
-        Some(both) => match name_of(both.0) {
-            None => Ok(Checked::Untyped(disagrees(place))),
-            Some(name) => { spawn_named(alloc, scope, place, target, both.0.place, name, both.1) }
-        },
+    let to = result_of(alloc, scope, place, target, fine(CType::Void))?;
+    let started = thread(alloc, scope, place, two(args))?;
+    match pair(to, started) {
+        Checked::Untyped(fault) => Ok(Checked::Untyped(fault)),
+        Checked::Typed(both, fault) => {
+            let (_, started) = both;
+            let (name, value) = started;
+            Ok(also(fault, fine(TStmt::Spawn(name, value))))
+        }
     }
 }
 

@@ -1,7 +1,7 @@
 //! Typed statements.
 
 ghost use Rattle.std.specs.Prelude.{◌≡◌, option_copied, map, IfOk};
-ghost use Rattle.vd_ctyping.specs.Statement.{set_value, set, store, assign, assigned, tested, returned, block, branches, repeats, typed_statement};
+ghost use Rattle.vd_ctyping.specs.CheckedStatement.{set_value, set, store, assign, assigned, tested, returned, block, branches, repeats, typed_statement};
 ghost use Rattle.vd_ctyping.specs.Place.{in_memory};
 
 use crate::call::{passed, wants_type};
@@ -192,7 +192,7 @@ fn repeats(
 
 /// A statement, or its first fault.
 #[cycle(statements)]
-#[tactic(auto, unfolding(crate::specs::Statement::typed_statement))]
+#[tactic(auto, unfolding(crate::specs::CheckedStatement::typed_statement))]
 fn type_statement(alloc: Global, scope: &Scope<'_>, s: &Stmt) -> Result<Checked<TStmt>, AllocError>
     ensures { IfOk result (λ t. t ≡ typed_statement scope.now s.now) }
 {

@@ -1,6 +1,6 @@
 use Rattle.std.proofs.Common.{◌≡◌, drop, []}
 use Rattle.vd_ctyping.specs.Checked.{fine}
-use Rattle.vd_ctyping.specs.Call.{arguments}
+use Rattle.vd_ctyping.specs.CheckedCall.{arguments}
 use Rattle.vd_ctyping.proofs.call.arguments.Given as goal
 
 -- what is passed, then the rest, is the whole

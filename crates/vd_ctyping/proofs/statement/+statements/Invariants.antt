@@ -1,6 +1,6 @@
 use Rattle.std.proofs.Common.{◌≡◌, drop, map}
 use Rattle.vd_ctyping.specs.Checked.{gathered}
-use Rattle.vd_ctyping.specs.Statement.{block, typed_statement}
+use Rattle.vd_ctyping.specs.CheckedStatement.{block, typed_statement}
 use Rattle.vd_ctyping.proofs.statement.+statements.Given as goal
 
 -- what is typed, then the rest, is the whole

@@ -1,4 +1,4 @@
--- Typed statements.
+-- The checker's way of statements.
 use Rattle.std.specs.Prelude.{ℕ, List, [], ◌∷◌, Option, None, Some, cond}
 use Rattle.vd_base.specs.declared.ctype.CType.{CType, Void}
 use Rattle.vd_clight.specs.declared.syntax.Expr.{Expr}
@@ -16,11 +16,12 @@ use Rattle.vd_ctyping.specs.declared.found.Found.{Found}
 use Rattle.vd_ctyping.specs.declared.found.Destination.{Destination}
 use Rattle.vd_ctyping.specs.declared.found.Destination.TheVariants as to
 use Rattle.vd_ctyping.specs.declared.found.Target.{Target}
-use Rattle.vd_ctyping.specs.Call.{passed, wants_type, call}
+use Rattle.vd_ctyping.specs.CheckedCall.{passed, call}
+use Rattle.vd_ctyping.specs.Call.{wants_type}
 use Rattle.vd_ctyping.specs.Checked.{fine, unless, follows, pair, gathered}
 use Rattle.vd_ctyping.specs.Environment.{Environment}
-use Rattle.vd_ctyping.specs.Expression.{judged}
-use Rattle.vd_ctyping.specs.Found.{as_operand, left_side, condition_of}
+use Rattle.vd_ctyping.specs.CheckedExpression.{judged, left_side, condition_of}
+use Rattle.vd_ctyping.specs.Found.{as_operand}
 use Rattle.vd_ctyping.specs.Operation.{wants}
 use Rattle.vd_ctyping.specs.Types.{is_void, element_of}
 
