@@ -4,7 +4,8 @@ use Rattle.vd_logic.specs.declared.assertion.Assertion.{Assertion}
 use Rattle.vd_logic.specs.declared.step.Step.{Step}
 use Rattle.vd_store.specs.declared.work.Verdict.{Verdict}
 use Rattle.vd_store.specs.declared.work.Verdict.TheVariants.{Accepted, Refused as RefusedAt}
-use Rattle.vd_check.specs.Script.{Node, Children, Refused, IsGood, ends, goes, Fails, lacks, refused, extra, later, HasVerdictFrom, apply, rule_of, shown}
+use Rattle.vd_check.specs.Rule.{rule_of}
+use Rattle.vd_check.specs.Script.{Node, Children, Refused, IsGood, ends, goes, Fails, lacks, refused, extra, later, HasVerdictFrom, apply, shown}
 
 module _ (post : Assertion) (last : ℕ) (n : Node) (s : Step) (ss steps : List Step) (cut : steps ≡ s ∷ ss) where
   at_cut : (v : Verdict) → HasVerdictFrom post last n (s ∷ ss) v → HasVerdictFrom post last n steps v

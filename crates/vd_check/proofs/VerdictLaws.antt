@@ -5,7 +5,8 @@ use Rattle.vd_logic.specs.declared.step.Step.{Step}
 use Rattle.vd_store.specs.declared.work.Verdict.{Verdict}
 use Rattle.vd_store.specs.declared.work.Verdict.TheVariants.{Accepted, Refused as RefusedAt}
 use Rattle.vd_check.specs.Laws.{OneVerdict}
-use Rattle.vd_check.specs.Script.{Node, Applied, Children, Refused, IsGood, ends, goes, Fails, lacks, refused, extra, later, HasVerdictFrom, apply, rule_of, shown, entry}
+use Rattle.vd_check.specs.Rule.{rule_of}
+use Rattle.vd_check.specs.Script.{Node, Applied, Children, Refused, IsGood, ends, goes, Fails, lacks, refused, extra, later, HasVerdictFrom, apply, shown, entry}
 
 abbrev behind : Step → List Step → Verdict
 behind s [] = Accepted

@@ -5,6 +5,7 @@ pub mod Laws
 pub mod Meaning
 pub mod NameTable
 pub mod Report
+pub mod Rule
 pub mod Safety
 pub mod Scratch
 pub mod Script

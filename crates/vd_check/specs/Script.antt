@@ -17,6 +17,7 @@ use Rattle.vd_logic.specs.declared.term.Term.{Term, Term-F, out-Term}
 use Rattle.vd_logic.specs.declared.term.Term.TheOpen as term
 use Rattle.vd_store.specs.declared.work.Verdict.{Verdict}
 use Rattle.vd_store.specs.declared.work.Verdict.TheVariants.{Accepted, Refused as RefusedAt}
+use Rattle.vd_check.specs.Rule.{rule_of}
 use Rattle.vd_check.specs.Value.{Value, Locals, value, is_proved}
 
 -- ---- postconditions
@@ -95,15 +96,11 @@ abbrev pub return_rule : Assertion → Node → List TStmt → Applied
 return_rule post node [] = shape
 return_rule post node (s ∷ rest) = return_first post node.locals (out-TStmt s)
 
--- what a step does. The steps of the form have no covers, no certificates and no terms.
+-- What a step does. The form has these two steps alone, without covers, certificates and terms.
 abbrev pub apply : Assertion → Node → StepNode → Applied
 apply post node (step.Set covers certificates) = set_rule node node.left
 apply post node (step.Return terms covers certificates) = return_rule post node node.left
-
--- the number of a step's rule
-abbrev pub rule_of : StepNode → ℕ
-rule_of (step.Set covers certificates) = 2
-rule_of (step.Return terms covers certificates) = 9
+apply post node _ = shape
 
 -- ---- scripts
 

@@ -5,6 +5,7 @@ mod form;
 mod laws;
 mod names;
 mod report;
+mod rule;
 mod script;
 mod typing;
 mod value;

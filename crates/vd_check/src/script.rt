@@ -1,10 +1,11 @@
 //! Judges a body by its script.
 
 ghost use Rattle.std.specs.Prelude.{◌≡◌, None, map, IfOk};
-ghost use Rattle.vd_check.specs.Script.{vi_of, side, are_equal, is_evident, meets, set_to, return_with, apply, rule_of, HasVerdict, HasVerdictFrom};
+ghost use Rattle.vd_check.specs.Script.{vi_of, side, are_equal, is_evident, meets, set_to, return_with, apply, HasVerdict, HasVerdictFrom};
 ghost use Rattle.vd_check.specs.Value.{value};
 ghost use Rattle.vd_check.specs.Effect.{applied};
 
+use crate::rule::rule_of;
 use crate::value::evaluate;
 use std::alloc::{AllocError, Global};
 use vd_base::Name;
@@ -118,19 +119,16 @@ fn apply<'a>(
     let Some((first, rest)) = left.split_first() else {
         return Effect::Refused(1);
     };
-    match (step, first) {
-        (StepNode::Set(_, _), TStmt::Set(number, e)) => set(locals, *number, e, rest),
-        (StepNode::Return(_, _, _), TStmt::Return(Some(e))) => return_value(post, locals, e),
-        _ => Effect::Refused(1),
-    }
-}
-
-fn rule_of(step: &StepNode) -> u8
-    ensures { result ≡ rule_of step.now }
-{
     match step {
-        StepNode::Set(_, _) => 2,
-        StepNode::Return(_, _, _) => 9,
+        StepNode::Set(_, _) => match first {
+            TStmt::Set(number, e) => set(locals, *number, e, rest),
+            _ => Effect::Refused(1),
+        },
+        StepNode::Return(_, _, _) => match first {
+            TStmt::Return(Some(e)) => return_value(post, locals, e),
+            _ => Effect::Refused(1),
+        },
+        _ => Effect::Refused(1),
     }
 }
 
