@@ -162,10 +162,12 @@ return_rule_goes post n m (s ∷ rest) h = return_first_goes post m n.locals (ou
 applied_goes : (post : Assertion) (n m : Node) (x : StepNode) → apply post n x ≡ Children (m ∷ []) → Sets n m
 applied_goes post n m (step.Set covers certificates) h = set_rule_goes n m n.left refl h
 applied_goes post n m (step.Return terms covers certificates) h = absurd (return_rule_goes post n m n.left h)
+applied_goes post n m _ h = absurd (cc)
 
 applied_ends : (post : Assertion) (n : Node) (x : StepNode) → apply post n x ≡ Children [] → Returns post n
 applied_ends post n (step.Set covers certificates) h = absurd (set_rule_ends n n.left h)
 applied_ends post n (step.Return terms covers certificates) h = return_rule_ends post n n.left refl h
+applied_ends post n _ h = absurd (cc)
 
 -- ---- a value that meets the postcondition satisfies it
 
