@@ -1,5 +1,5 @@
 -- The header line and the line `end` of a printed section.
-use Rattle.std.proofs.Common.{ℕ, suc, ◌+◌, ◌≡◌, Bool, true, false, ◌&&◌, List, [], ◌∷◌, ◌++◌, length, take, drop, codes, Option, Some, None, refl, sym, ◌∙◌, ap, subst, arith, append_assoc}
+use Rattle.std.proofs.Common.{ℕ, suc, ◌+◌, ◌≡◌, Bool, true, false, ◌&&◌, List, [], ◌∷◌, ◌++◌, length, drop, codes, Some, refl, ◌∙◌, ap, arith, append_assoc}
 use Rattle.std.specs.Prelude.{◌==◌, if◌then◌else◌, nat_le, option_map, not, slice_index}
 use Rattle.std.specs.List.{list_all}
 use Rattle.std.specs.Char.{is_ascii_digit}
@@ -9,7 +9,7 @@ use Rattle.vd_base.specs.Name.{is_word_byte, is_name}
 use Rattle.vd_tokens.specs.Bytes.{is_no_line_feed, AllBytes}
 use Rattle.vd_tokens.specs.Shapes.{and_parts}
 use Rattle.vd_cparse.specs.Words.{is_header_name}
-use Rattle.vd_cparse.specs.HeaderLine.{HeaderCut, found, missing, word_of, begins_with, after_name, at_name, after_word, header_of, begins_end, end_at}
+use Rattle.vd_cparse.specs.HeaderLine.{found, missing, word_of, after_name, at_name, header_of, begins_end, end_at}
 
 -- ---- the header line
 

@@ -10,7 +10,7 @@ use Rattle.vd_cparse.specs.Grammar.{Sort, Value, Rule, grammar, symbols}
 use Rattle.vd_cparse.specs.Kinds.{has}
 use Rattle.vd_cparse.specs.Lexeme.{Lexeme}
 use Rattle.vd_cparse.specs.Precedence.{Vocabulary}
-use Rattle.vd_cparse.specs.Standing.{IsToken, AreTokens, none, next}
+use Rattle.vd_cparse.specs.Standing.{AreTokens, none, next}
 use Rattle.vd_cparse.proofs.Starts.{Values}
 use Rattle.vd_clight.specs.Printed.{Words}
 

@@ -1,5 +1,5 @@
 -- What a section takes for its own name, and for the line that ends it.
-use Rattle.std.proofs.Common.{ℕ, ◌≡◌, Bool, true, false, ◌&&◌, List, [], ◌∷◌, Option, Some, None, refl, sym, ◌∙◌, ap, subst}
+use Rattle.std.proofs.Common.{ℕ, ◌≡◌, Bool, true, false, List, [], ◌∷◌, Option, Some, None, refl, sym, subst}
 use Rattle.std.specs.Prelude.{if◌then◌else◌}
 use Rattle.std.specs.Str.{bytes_eq}
 use Rattle.std.specs.Cmp.Lexicographic.{same_text}
@@ -13,7 +13,7 @@ use Rattle.vd_cparse.specs.declared.kind.Kind.{Kind}
 use Rattle.vd_cparse.specs.declared.kind.Kind.TheVariants as k
 use Rattle.vd_cparse.specs.Kinds.{same}
 use Rattle.vd_cparse.specs.Lexeme.{Lexeme}
-use Rattle.vd_cparse.specs.Words.{kind_in, type_words, statement_words, reserved_words, name_kind, word_kind, is_header_name, separators, operators, double_operators, sign_kind, is_length, number_in, number_kind, lexeme_as, lexeme_in, lexemes_in}
+use Rattle.vd_cparse.specs.Words.{kind_in, type_words, statement_words, reserved_words, name_kind, word_kind, is_header_name, separators, operators, double_operators, sign_kind, is_length, number_in, number_kind, lexeme_as, lexemes_in}
 use Rattle.vd_cparse.specs.Vocabularies.{token_shape, lexeme_at}
 
 -- no entry of the table is of the kind

@@ -1,9 +1,9 @@
 -- The section that is printed of a function reads as it, places apart.
-use Rattle.std.proofs.Common.{ℕ, ◌+◌, ◌≡◌, ◌<◌, Bool, true, false, List, [], ◌∷◌, ◌++◌, length, map, take, drop, codes, Some, refl, sym, ◌∙◌, ap, subst, arith, append_assoc, length-append}
+use Rattle.std.proofs.Common.{ℕ, ◌+◌, ◌≡◌, ◌<◌, Bool, true, false, List, [], ◌∷◌, ◌++◌, length, codes, Some, refl, sym, ◌∙◌, ap, subst, arith, append_assoc, length-append}
 use Rattle.std.specs.List.{join_with_byte}
 use Rattle.std.proofs.Math.Seq.{take-append_seam, drop-append-add}
 use Rattle.vd_clight.specs.declared.syntax.FnText.{FnText}
-use Rattle.vd_clight.specs.Printed.{Words, one, type_words, parameter_words, declaration_words, statement_words, function_words, printed}
+use Rattle.vd_clight.specs.Printed.{Words, function_words, printed}
 use Rattle.vd_grammar.specs.Grammar.{Is}
 use Rattle.vd_tokens.specs.declared.alphabet.Alphabet.TheVariants.{C}
 use Rattle.vd_tokens.specs.declared.token.End.TheVariants as last
@@ -11,30 +11,27 @@ use Rattle.vd_tokens.specs.Bytes.{is_no_line_feed, AllBytes}
 use Rattle.vd_tokens.specs.Text.{Tokenizes, ends}
 use Rattle.vd_cparse.specs.declared.depth.Depth.{Depth}
 use Rattle.vd_cparse.specs.declared.kind.Kind.TheVariants as k
-use Rattle.vd_cparse.specs.Grammar.{Sort, Rule, grammar, FnSection, Function}
-use Rattle.vd_cparse.specs.HeaderLine.{found, header_of, end_at}
-use Rattle.vd_cparse.specs.Kinds.{same}
+use Rattle.vd_cparse.specs.Grammar.{Rule, grammar, FnSection}
+use Rattle.vd_cparse.specs.HeaderLine.{header_of, end_at}
 use Rattle.vd_cparse.specs.Lexeme.{Lexeme}
-use Rattle.vd_cparse.specs.Nesting.{nesting, after, start}
+use Rattle.vd_cparse.specs.Nesting.{after, start}
 use Rattle.vd_cparse.specs.PrintLaw.{SpacedWord, spaced_text, spaced_tokens}
 use Rattle.vd_cparse.specs.Precedence.{Vocabulary}
-use Rattle.vd_cparse.specs.Section.{HasTokensBy, HasTokens, IsClosed, end_line, IsFnSection}
+use Rattle.vd_cparse.specs.Section.{HasTokensBy, HasTokens, IsClosed, end_line}
 use Rattle.vd_cparse.specs.Shallow.{nested, Shallow}
-use Rattle.vd_cparse.specs.Standing.{AreTokens, AreRead, spellings, FunctionReadsAs}
-use Rattle.vd_cparse.specs.Vocabularies.{HasVocabulary}
+use Rattle.vd_cparse.specs.Standing.{AreTokens, FunctionReadsAs}
 use Rattle.vd_cparse.specs.Words.{lexemes_in}
 use Rattle.vd_cparse.proofs.FunctionsBack.{functions_read_back}
 use Rattle.vd_cparse.proofs.SectionWords.{have_vocabularies}
 use Rattle.vd_cparse.proofs.Spacing.{spaced_are_tokens}
 use Rattle.vd_cparse.proofs.Starts.{put_together}
 use Rattle.vd_reprint.specs.Nested.{FunctionsAreShallow}
-use Rattle.vd_reprint.specs.SectionText.{section_text, ReadsBack, SectionsReadBack}
+use Rattle.vd_reprint.specs.SectionText.{SectionsReadBack}
 use Rattle.vd_reprint.proofs.Contents.{TokensShallow, fronts_shallow, words_shallow, shallow_words, Content, content_of}
-use Rattle.vd_reprint.proofs.Following.{Within, Follows}
 use Rattle.vd_reprint.proofs.FunctionsFollow.{function_follows, function_begins}
 use Rattle.vd_reprint.proofs.HeaderLines.{header_is, end_is}
-use Rattle.vd_reprint.proofs.KnownKinds.{AllKnown, all_known, AllTaken, tokens_at, tokens_stand, all_taken}
-use Rattle.vd_reprint.proofs.OwnNames.{IsOwn, own_is}
+use Rattle.vd_reprint.proofs.KnownKinds.{all_known, tokens_at, tokens_stand, all_taken}
+use Rattle.vd_reprint.proofs.OwnNames.{own_is}
 use Rattle.vd_reprint.proofs.SpacedLines.{AllWords, taken_are_words, spaced_words, words_are, line_is, line_is_plain, Begins}
 
 pub functions_are_shallow : FunctionsAreShallow

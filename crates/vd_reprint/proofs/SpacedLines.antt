@@ -11,7 +11,6 @@ use Rattle.vd_cparse.specs.declared.kind.Class.TheVariants as c
 use Rattle.vd_cparse.specs.Kinds.{has}
 use Rattle.vd_cparse.specs.PrintLaw.{SpacedWord, spaced_text}
 use Rattle.vd_cparse.specs.Precedence.{Vocabulary, text_of, SpellsType, simple, struct, pointer}
-use Rattle.vd_cparse.specs.Vocabularies.{HasVocabulary}
 use Rattle.vd_cparse.proofs.PrintedSpells.{simple_words, struct_words, pointer_words}
 use Rattle.vd_cparse.proofs.SectionWords.{have_vocabularies}
 use Rattle.vd_reprint.proofs.KnownKinds.{AllTaken}
@@ -42,7 +41,7 @@ words_are (w ∷ v ∷ ws) a = ap (λ z. w ∷ z) (words_are (v ∷ ws) a.1)
 
 pub line_is : (w : List ℕ) (ws : Words) (a : AllWords (w ∷ ws)) → spaced_text (spaced_words (w ∷ ws) a) ≡ join_with_byte 32 (w ∷ ws) ++ codes "\n"
 unfolding AllWords spaced_words
-line_is w [] a = append_assoc w (codes "\n") [] ∙ refl
+line_is w [] a = append_assoc w (codes "\n") []
 line_is w (v ∷ ws) a =
     append_assoc w (32 ∷ []) (spaced_text (spaced_words (v ∷ ws) a.1)) ∙ (ap (λ z. w ++ 32 ∷ z) (line_is v ws a.1) ∙ sym (append_assoc w (32 ∷ join_with_byte 32 (v ∷ ws)) (codes "\n")))
 

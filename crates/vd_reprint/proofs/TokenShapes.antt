@@ -1,7 +1,6 @@
 -- Words that a section takes for anything are tokens, and no token has a line feed.
-use Rattle.std.proofs.Common.{ℕ, ◌≡◌, ◌≢◌, ◌⊎◌, inl, inr, Bool, true, false, ◌||◌, ◌&&◌, List, [], ◌∷◌, ◌++◌, Option, Some, None, refl, sym, ◌∙◌, ap, subst}
+use Rattle.std.proofs.Common.{ℕ, ◌≡◌, ◌≢◌, ◌⊎◌, inl, inr, Bool, true, false, ◌&&◌, List, [], ◌∷◌, ◌++◌, Option, Some, None, refl, sym, ◌∙◌, ap, subst}
 use Rattle.std.specs.Prelude.{◌==◌, if◌then◌else◌}
-use Rattle.std.specs.List.{list_any}
 use Rattle.std.specs.Str.{bytes_eq}
 use Rattle.std.specs.Cmp.Lexicographic.{same_text}
 use Rattle.std.proofs.lemmas.Bool.{eqb-true, eqb-false}
@@ -10,7 +9,7 @@ use Rattle.vd_tokens.specs.declared.token.TokenKind.{TokenKind}
 use Rattle.vd_tokens.specs.declared.token.TokenKind.TheVariants as shape
 use Rattle.vd_tokens.specs.Bytes.{is_digit, is_letter, is_word_byte, is_blank, is_no_line_feed, AllBytes}
 use Rattle.vd_tokens.specs.Shapes.{all_bytes, is_nothing, when, suffix_on, digits_on, number_on, slash_shape, stars_shape, closes_at_end, sign_on, shape_of, is_sign, and_parts}
-use Rattle.vd_tokens.specs.Signs.{is_single, is_pair, is_two, pairs}
+use Rattle.vd_tokens.specs.Signs.{is_single, is_pair}
 use Rattle.vd_tokens.specs.Text.{IsDecimal, has_close, Shape, Token, Gap, Unclosed, IsElement, word, number, suffixed, single, pair}
 use Rattle.vd_cparse.specs.declared.kind.Kind.{Kind}
 use Rattle.vd_cparse.specs.declared.kind.Kind.TheVariants as k
@@ -103,7 +102,7 @@ token_of_shape (b ∷ bs) kind h = by_tests (is_letter b) (is_digit b) (is_blank
 
     by_tests : (l d g s : Bool) → is_letter b ≡ l → is_digit b ≡ d → (b == 47) ≡ s
         → (if l then when (all_bytes is_word_byte bs) (Token shape.Word) else (if d then when (number_on C b bs) (Token shape.Number) else (if g then when (is_nothing bs) Gap else (
-          if s then slash_shape C bs else when (sign_on C b bs) (Token shape.Sign))))) ≡ Some (Token kind) → IsElement C (Token kind) (b ∷ bs)
+        if s then slash_shape C bs else when (sign_on C b bs) (Token shape.Sign))))) ≡ Some (Token kind) → IsElement C (Token kind) (b ∷ bs)
     by_tests true d g s hl hd hs e = let p = when_is (all_bytes is_word_byte bs) (Token shape.Word) (Token kind) e in moved p.1 (word hl (all_bytes_back is_word_byte bs p.0))
     by_tests false true g s hl hd hs e = let p = when_is (number_on C b bs) (Token shape.Number) (Token kind) e in moved p.1 (number_is_token b bs hd p.0)
     by_tests false false true s hl hd hs e = let p = when_is (is_nothing bs) Gap (Token kind) e in let q = p.1 in cc
