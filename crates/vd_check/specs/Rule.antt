@@ -25,7 +25,6 @@ rule_of (step.Release a b c) = 18
 rule_of (step.FreeLock a b c d) = 19
 rule_of (step.Spawn a b c) = 20
 rule_of (step.Fold a b c d e) = 21
-rule_of (step.Unfold a b) = 22
 rule_of (step.Split a b c) = 23
 rule_of (step.Absurd a) = 24
 rule_of (step.Have a b) = 25
@@ -42,3 +41,5 @@ rule_of (step.Apart a b c) = 35
 rule_of (step.Forget a) = 36
 rule_of (step.Meet a b) = 37
 rule_of (step.Name a b) = 38
+-- `unfold`, which has a list of blocks
+rule_of _ = 22
