@@ -1,5 +1,6 @@
 -- A fold of a term, by the term's outermost layer.
-use Rattle.std.proofs.Common.{◌≡◌, ℕ, ℤ, List, map, ap, ◌∙◌}
+use Rattle.std.specs.Prelude.{◌≡◌, ℕ, ℤ, List, map}
+use Rattle.std.proofs.Common.{ap, ◌∙◌}
 use Rattle.vd_base.specs.declared.name.Name.{Name}
 use Rattle.vd_logic.specs.declared.term.Op.{Op}
 use Rattle.vd_logic.specs.declared.term.Sort.{Sort}

@@ -1,0 +1,3 @@
+pub mod Classes
+mod Cuts
+mod Fitting
