@@ -81,7 +81,7 @@ step_fits rest_kind word h =
     kind_fits words.flow_words _ word refl (kind_fits words.leaving_words _ word refl (kind_fits words.call_words _ word refl
     (kind_fits words.fact_words _ word refl (kind_fits words.item_words _ word refl (kind_fits words.last_words _ word refl h)))))
 
-word_fits : (l : Language) (own word : List ℕ) → may_be (word_kind l own word) word 0 ≡ true
+pub word_fits : (l : Language) (own word : List ℕ) → may_be (word_kind l own word) word 0 ≡ true
 word_fits language.Abstract own word = kind_fits words.sort_words (name_kind own word) word refl (name_fits own word)
 word_fits language.Pred own word = assertion_fits (entry_of words.case_words (name_kind own word) word) word (kind_fits words.case_words (name_kind own word) word refl (name_fits own word))
 word_fits language.Spec own word =

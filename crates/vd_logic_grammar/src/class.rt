@@ -116,12 +116,7 @@ fn is_flow_word(kind: Kind) -> bool
 {
     matches!(
         kind,
-        Kind::Skip
-            | Kind::Set
-            | Kind::Load
-            | Kind::Store
-            | Kind::If
-            | Kind::While
+        Kind::Skip | Kind::Set | Kind::Load | Kind::Store | Kind::If | Kind::While
     )
 }
 
@@ -130,12 +125,7 @@ fn is_leaving_word(kind: Kind) -> bool
 {
     matches!(
         kind,
-        Kind::Break
-            | Kind::Continue
-            | Kind::Return
-            | Kind::Fall
-            | Kind::Block
-            | Kind::Pose
+        Kind::Break | Kind::Continue | Kind::Return | Kind::Fall | Kind::Block | Kind::Pose
     )
 }
 
@@ -189,12 +179,7 @@ fn is_item_word(kind: Kind) -> bool
 fn is_last_word(kind: Kind) -> bool
     ensures { result ≡ kinds.has Class.LastWord kind }
 {
-    matches!(
-        kind,
-        Kind::Forget
-            | Kind::Meet
-            | Kind::NameWord
-    )
+    matches!(kind, Kind::Forget | Kind::Meet | Kind::NameWord)
 }
 
 #[tactic(auto, using(crate::proofs::Classes::step_word_is))]
@@ -215,10 +200,16 @@ pub fn has(class: Class, kind: Kind) -> bool
         Class::PlainName => matches!(kind, Kind::Name | Kind::Own),
         Class::AnyNumber => matches!(kind, Kind::Number | Kind::Index),
         Class::SortWord => matches!(kind, Kind::Int | Kind::Val | Kind::List),
-        Class::TypeWord => matches!(kind, Kind::Int | Kind::Unsigned | Kind::Lock | Kind::Void | Kind::Struct),
+        Class::TypeWord => matches!(
+            kind,
+            Kind::Int | Kind::Unsigned | Kind::Lock | Kind::Void | Kind::Struct
+        ),
         Class::SimpleType => matches!(kind, Kind::Int | Kind::Unsigned | Kind::Lock | Kind::Void),
         Class::FilledType => matches!(kind, Kind::Int | Kind::Unsigned | Kind::Lock),
-        Class::Relation => matches!(kind, Kind::Equal | Kind::NotEqual | Kind::LessEqual | Kind::Less),
+        Class::Relation => matches!(
+            kind,
+            Kind::Equal | Kind::NotEqual | Kind::LessEqual | Kind::Less
+        ),
         Class::Summing => matches!(kind, Kind::Plus | Kind::Minus),
         Class::FlowWord => is_flow_word(kind),
         Class::LeavingWord => is_leaving_word(kind),

@@ -5,3 +5,4 @@ pub mod Place
 pub mod Content
 pub mod Answer
 pub mod Exact
+pub mod Naming

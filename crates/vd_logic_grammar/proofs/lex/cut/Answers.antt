@@ -2,7 +2,7 @@ use Rattle.vd_logic_grammar.proofs.Cuts.{kept_start, kept_next, kept_deep, kept_
 use Rattle.vd_logic_grammar.proofs.lex.cut.Goals as goal
 
 pub tokens-init : goal.tokens-init
-tokens-init c = kept_start c.args.tokens.now c.new-depth.result c.new-depth.ensures.value c.new-depth.ensures.counted
+tokens-init c = rw c.new-found.ensures.items (kept_start c.args.tokens.now c.new-depth.result c.new-depth.ensures.value c.new-depth.ensures.counted)
 
 pub returns-then-depth-ge-LIMIT : goal.returns-then-depth-ge-LIMIT
 returns-then-depth-ge-LIMIT c = kept_deep c.args.tokens.now c.tokens.found.items c.tokens.token-index c.tokens.depth c.count.new.self _ c.args.end
