@@ -1,2 +1,2 @@
-mod Numbering
+mod Naming
 mod Declaring

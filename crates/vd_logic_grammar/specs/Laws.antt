@@ -11,7 +11,8 @@ use Rattle.vd_logic_grammar.specs.Kinds.{kind_number, same, has}
 use Rattle.vd_logic_grammar.specs.Lexeme.{Lexeme, kind_of}
 use Rattle.vd_logic_grammar.specs.Grammar.{Phrase, AbstractSection, Rule, symbols}
 use Rattle.vd_logic_grammar.specs.Choice.{choose, grammar}
-use Rattle.vd_logic_grammar.specs.Begins.{kinds, rules, rule_number, begins, rank, height, least, sample_kind, tables}
+use Rattle.vd_logic_grammar.specs.RuleLists.{kinds, rules, rule_number, least}
+use Rattle.vd_logic_grammar.specs.Begins.{begins, rank, height, sample_kind, tables}
 use Rattle.vd_logic_grammar.specs.Read.{read}
 
 pub kind_listed : (kind : Kind) → nth kinds (kind_number kind) ≡ Some kind

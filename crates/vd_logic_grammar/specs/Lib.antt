@@ -7,6 +7,7 @@ pub mod Grammar
 pub mod Making
 pub mod Choice
 pub mod Read
+pub mod RuleLists
 pub mod Begins
 pub mod Laws
 pub mod Words

@@ -1,5 +1,5 @@
 use Rattle.std.proofs.Common.{rules}
-use Rattle.vd_assertion_text.proofs.Numbering.{numbered-Num, numbered-Var, numbered-Named, numbered-Global, numbered-App}
+use Rattle.vd_assertion_text.proofs.Naming.{numbered-Num, numbered-Var, numbered-Named, numbered-Global, numbered-App}
 use Rattle.vd_assertion_text.proofs.numbering.+number.Goals as goal
 
 pub in_term-returns-in-Num : goal.in_term-returns-in-Num
