@@ -7,9 +7,9 @@ ghost use Rattle.vd_logic_grammar.specs.Grammar.{Phrase, Rule};
 ghost use Rattle.vd_logic_grammar.specs.Read.{read, read_rule};
 
 use crate::binder::binders;
+use crate::expression::term;
+use crate::fact::props;
 use crate::item::items;
-use crate::prop::props;
-use crate::term::term;
 use std::alloc::Global;
 use vd_base::{List, Name};
 use vd_grammar::Stop;

@@ -2,21 +2,21 @@
 //! grammar of logic sections.
 #![tactic(auto)]
 
+mod arguments;
 mod assertion;
 mod binder;
+mod expression;
+mod fact;
 mod item;
-mod label;
 mod made;
 mod numbering;
 mod parameters;
-mod prop;
 mod sections;
-mod term;
 mod types;
 mod variables;
 
+pub use arguments::{label, terms};
+pub use expression::term;
+pub use fact::prop;
 pub use item::items;
-pub use label::{label, terms};
-pub use prop::prop;
 pub use sections::{abstract_section, claim, pred_section, spec_section};
-pub use term::term;

@@ -1,6 +1,6 @@
 //! Reads sections, from their header lines to their `end` lines.
 
-ghost use Rattle.std.specs.Prelude.{◌≡◌, ◌≢◌, true, Err, Result, IfOk};
+ghost use Rattle.std.specs.Prelude.{◌≡◌, ◌≢◌, [], true, Err, Result, IfOk};
 ghost use Rattle.vd_base.specs.Name.{is_name};
 ghost use Rattle.vd_grammar.specs.declared.fault.ParseFault.{ParseFault};
 ghost use Rattle.vd_grammar.specs.declared.fault.ParseFault.TheVariants.{Memory};
@@ -8,28 +8,41 @@ ghost use Rattle.vd_logic_grammar.specs.Fits.{all_fit};
 ghost use Rattle.vd_logic_grammar.specs.Lexeme.{lexemes_of};
 ghost use Rattle.vd_sparse.specs.declared.text.LogicText.{LogicText};
 ghost use Rattle.vd_sparse.specs.Making.{Makes};
-ghost use Rattle.vd_sparse.specs.Sections.{AnswersKind, AnswersLogic};
+ghost use Rattle.vd_sparse.specs.Sections.{AnswersKind, AnswersLogic, made};
 
 use crate::kind::{SectionKind, kind_of};
 use crate::read::{read_abstract, read_init, read_pred, read_script, read_spec};
 use crate::text::LogicText;
-use std::alloc::Global;
-use vd_base::{Name, NameFault, Text};
+use std::alloc::{AllocError, Global};
+use vd_base::{List, Name, NameFault, Text};
 use vd_grammar::ParseFault;
-use vd_logic::PredDef;
+use vd_logic::{Assertion, Item, PredDef, Sort, Step};
 use vd_logic_grammar::{Front, Language, named_front, plain_front};
 use vd_section::split_word;
 
-fn own_name(alloc: Global, own: &[u8]) -> Result<Name, ParseFault>
+fn own_name(alloc: Global, own: &[u8]) -> Result<Name, AllocError>
     requires { is_name own.now ≡ true }
-    ensures name { IfOk result (λ name. name ≡ own.now) }
-    ensures fault { (why : ParseFault) → result ≡ Err why → why ≡ Memory }
+    ensures { IfOk result (λ name. name ≡ own.now) }
 {
     match Name::new(alloc, own) {
         Ok(name) => Ok(name),
-        Err(NameFault::Memory(_)) => Err(ParseFault::Memory),
+        Err(NameFault::Memory(error)) => Err(error),
         Err(NameFault::NotName) => unreachable!(),
     }
+}
+
+fn predicate(name: Name, found: (List<Sort>, List<Assertion>)) -> LogicText
+    ensures { result ≡ made SectionKind.Pred name found }
+{
+    let (args, cases) = found;
+    LogicText::Pred(PredDef { name, args, cases })
+}
+
+fn initial(found: (List<Item>, List<Step>)) -> LogicText
+    ensures { result ≡ made SectionKind.Init [] found }
+{
+    let (items, steps) = found;
+    LogicText::Init(items, steps)
 }
 
 fn made_abstract(alloc: Global, front: &Front<'_>) -> Result<LogicText, ParseFault>
@@ -37,9 +50,15 @@ fn made_abstract(alloc: Global, front: &Front<'_>) -> Result<LogicText, ParseFau
     requires named { is_name front.now.own.now ≡ true }
     ensures { Makes SectionKind.Abstract front.now result }
 {
-    let name = own_name(alloc, front.own)?;
-    let found = read_abstract(alloc, front.tokens.as_slice(), front.cause, front.at)?;
-    Ok(LogicText::Abstract(name, found))
+    match own_name(alloc, front.own) {
+        Ok(name) => {
+            match read_abstract(alloc, front.tokens.as_slice(), front.cause, front.at) {
+                Ok(found) => Ok(LogicText::Abstract(name, found)),
+                Err(fault) => Err(fault),
+            }
+        }
+        Err(_) => Err(ParseFault::Memory),
+    }
 }
 
 fn made_pred(alloc: Global, front: &Front<'_>) -> Result<LogicText, ParseFault>
@@ -47,18 +66,25 @@ fn made_pred(alloc: Global, front: &Front<'_>) -> Result<LogicText, ParseFault>
     requires named { is_name front.now.own.now ≡ true }
     ensures { Makes SectionKind.Pred front.now result }
 {
-    let name = own_name(alloc, front.own)?;
-    let found = read_pred(alloc, front.tokens.as_slice(), front.cause, front.at)?;
-    let (args, cases) = found;
-    Ok(LogicText::Pred(PredDef { name, args, cases }))
+    match own_name(alloc, front.own) {
+        Ok(name) => {
+            match read_pred(alloc, front.tokens.as_slice(), front.cause, front.at) {
+                Ok(found) => Ok(predicate(name, found)),
+                Err(fault) => Err(fault),
+            }
+        }
+        Err(_) => Err(ParseFault::Memory),
+    }
 }
 
 fn made_spec(alloc: Global, front: &Front<'_>) -> Result<LogicText, ParseFault>
     requires { all_fit (lexemes_of front.now.tokens.items) ≡ true }
     ensures { Makes SectionKind.Spec front.now result }
 {
-    let found = read_spec(alloc, front.tokens.as_slice(), front.cause, front.at)?;
-    Ok(LogicText::Spec(found))
+    match read_spec(alloc, front.tokens.as_slice(), front.cause, front.at) {
+        Ok(found) => Ok(LogicText::Spec(found)),
+        Err(fault) => Err(fault),
+    }
 }
 
 fn made_script(alloc: Global, front: &Front<'_>) -> Result<LogicText, ParseFault>
@@ -66,9 +92,15 @@ fn made_script(alloc: Global, front: &Front<'_>) -> Result<LogicText, ParseFault
     requires named { is_name front.now.own.now ≡ true }
     ensures { Makes SectionKind.Script front.now result }
 {
-    let name = own_name(alloc, front.own)?;
-    let found = read_script(alloc, front.tokens.as_slice(), front.cause, front.at)?;
-    Ok(LogicText::Script(name, found))
+    match own_name(alloc, front.own) {
+        Ok(name) => {
+            match read_script(alloc, front.tokens.as_slice(), front.cause, front.at) {
+                Ok(found) => Ok(LogicText::Script(name, found)),
+                Err(fault) => Err(fault),
+            }
+        }
+        Err(_) => Err(ParseFault::Memory),
+    }
 }
 
 fn made_sub(alloc: Global, front: &Front<'_>) -> Result<LogicText, ParseFault>
@@ -76,20 +108,28 @@ fn made_sub(alloc: Global, front: &Front<'_>) -> Result<LogicText, ParseFault>
     requires named { is_name front.now.own.now ≡ true }
     ensures { Makes SectionKind.Sub front.now result }
 {
-    let name = own_name(alloc, front.own)?;
-    let found = read_script(alloc, front.tokens.as_slice(), front.cause, front.at)?;
-    Ok(LogicText::Sub(name, found))
+    match own_name(alloc, front.own) {
+        Ok(name) => {
+            match read_script(alloc, front.tokens.as_slice(), front.cause, front.at) {
+                Ok(found) => Ok(LogicText::Sub(name, found)),
+                Err(fault) => Err(fault),
+            }
+        }
+        Err(_) => Err(ParseFault::Memory),
+    }
 }
 
 fn made_init(alloc: Global, front: &Front<'_>) -> Result<LogicText, ParseFault>
     requires { all_fit (lexemes_of front.now.tokens.items) ≡ true }
     ensures { Makes SectionKind.Init front.now result }
 {
-    let found = read_init(alloc, front.tokens.as_slice(), front.cause, front.at)?;
-    let (items, steps) = found;
-    Ok(LogicText::Init(items, steps))
+    match read_init(alloc, front.tokens.as_slice(), front.cause, front.at) {
+        Ok(found) => Ok(initial(found)),
+        Err(fault) => Err(fault),
+    }
 }
 
+#[tactic(auto, using(crate::specs::Whole::fault_answer))]
 fn parse_abstract(alloc: Global, text: &Text) -> Result<LogicText, ParseFault>
     ensures { AnswersKind SectionKind.Abstract text.now result }
 {
@@ -99,6 +139,7 @@ fn parse_abstract(alloc: Global, text: &Text) -> Result<LogicText, ParseFault>
     }
 }
 
+#[tactic(auto, using(crate::specs::Whole::fault_answer))]
 fn parse_pred(alloc: Global, text: &Text) -> Result<LogicText, ParseFault>
     ensures { AnswersKind SectionKind.Pred text.now result }
 {
@@ -108,6 +149,7 @@ fn parse_pred(alloc: Global, text: &Text) -> Result<LogicText, ParseFault>
     }
 }
 
+#[tactic(auto, using(crate::specs::Whole::fault_answer))]
 fn parse_spec(alloc: Global, text: &Text) -> Result<LogicText, ParseFault>
     ensures { AnswersKind SectionKind.Spec text.now result }
 {
@@ -117,6 +159,7 @@ fn parse_spec(alloc: Global, text: &Text) -> Result<LogicText, ParseFault>
     }
 }
 
+#[tactic(auto, using(crate::specs::Whole::fault_answer))]
 fn parse_script(alloc: Global, text: &Text) -> Result<LogicText, ParseFault>
     ensures { AnswersKind SectionKind.Script text.now result }
 {
@@ -126,6 +169,7 @@ fn parse_script(alloc: Global, text: &Text) -> Result<LogicText, ParseFault>
     }
 }
 
+#[tactic(auto, using(crate::specs::Whole::fault_answer))]
 fn parse_sub(alloc: Global, text: &Text) -> Result<LogicText, ParseFault>
     ensures { AnswersKind SectionKind.Sub text.now result }
 {
@@ -135,6 +179,7 @@ fn parse_sub(alloc: Global, text: &Text) -> Result<LogicText, ParseFault>
     }
 }
 
+#[tactic(auto, using(crate::specs::Whole::fault_answer))]
 fn parse_init(alloc: Global, text: &Text) -> Result<LogicText, ParseFault>
     ensures { AnswersKind SectionKind.Init text.now result }
 {

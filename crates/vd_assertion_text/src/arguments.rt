@@ -6,7 +6,7 @@ ghost use Rattle.vd_grammar.specs.Reads.{Reads};
 ghost use Rattle.vd_logic_grammar.specs.Grammar.{Phrase, Rule};
 ghost use Rattle.vd_logic_grammar.specs.Read.{read, read_rule};
 
-use crate::term::term;
+use crate::expression::term;
 use std::alloc::Global;
 use vd_base::List;
 use vd_grammar::Stop;
