@@ -1,9 +1,11 @@
 -- One declaration more.
-use Rattle.std.proofs.Common.{ℕ, suc, ◌+◌, ◌<◌, ◌≡◌, Bool, true, false, List, [], ◌∷◌, ◌++◌, length, take, get_or, Option, Some, None, refl, sym, ◌∙◌, ap, subst, arith, append_assoc, length-append}
+use Rattle.std.proofs.Common.{ℕ, suc, ◌+◌, ◌<◌, ◌≡◌, Bool, true, false, List, [], ◌∷◌, ◌++◌, length, take, get_or, Option, Some, None, Result, Ok, Err, IfOk, refl, sym, ◌∙◌, ap, subst, arith, append_assoc, length-append}
 use Rattle.std.proofs.lemmas.List.{take_more}
 use Rattle.std.specs.Prelude.{if◌then◌else◌}
 use Rattle.std.specs.Str.{bytes_eq}
 use Rattle.std.proofs.Math.Path.{fun_ext}
+use Rattle.std.specs.declared.alloc.AllocError.{AllocError}
+use Rattle.vd_logic.specs.declared.assertion.Assertion.{Assertion}
 use Rattle.vd_logic.specs.declared.term.Sort.{Sort}
 use Rattle.vd_logic_grammar.specs.declared.parts.AssertionText.{AssertionText}
 use Rattle.vd_assertion_text.specs.declared.variables.Variables.{Variables}
@@ -51,3 +53,9 @@ stands_more old new before ds n d name s below e f h names count =
 -- no name
 pub stands_nothing : (v : Variables) → ((name : List ℕ) → variable_in v name ≡ None) → v.count ≡ 0 → Stands v []
 stands_nothing v names count = record { count = count; numbers = names }
+
+-- the same of what is made, unless memory fails
+pub numbered_result : (f : List ℕ → Option (ℕ × Sort)) (before : List (List ℕ × Sort)) (a : AssertionText) (r : Result Assertion AllocError) → IfOk r (λ it. it ≡ numbered_by f a)
+    → ((name : List ℕ) → f name ≡ variable_from 0 (before ++ a.opened) name) → IfOk r (λ it. it ≡ numbered_assertion before a)
+numbered_result f before a (Ok it) x h = x ∙ numbered_same f before a h
+numbered_result f before a (Err e) x h = tt
