@@ -2,6 +2,7 @@ pub mod Fault
 pub mod Laws
 pub mod Lines
 pub mod Lookup
+pub mod HeadPart
 pub mod Outline
 pub mod Reading
 pub mod Seen

@@ -7,6 +7,7 @@ mod header;
 mod laws;
 mod line;
 mod outline;
+mod parts;
 mod reading;
 mod section;
 mod seen;
@@ -14,6 +15,7 @@ mod seen;
 pub use laws::outline_laws;
 pub use line::cut_at;
 pub use outline::{Outline, OutlineFault, TextKind, head_of, outline_of};
+pub use parts::{head_line, head_part, header_lines, is_head, section_word};
 pub use section::{Section, SectionKind, find};
 
 #[cfg(test)]

@@ -1,0 +1,51 @@
+-- The conditions that head parts have to keep, and the first that fails.
+use Rattle.std.specs.Prelude.{◌≡◌, ◌≤◌, ◌<◌, ℕ, List, length, Option, None, Some}
+use Rattle.vd_scopes.specs.declared.content.Content.TheVariants as content
+use Rattle.vd_scopes.specs.declared.content.HeadSection.{HeadSection}
+use Rattle.vd_scopes.specs.declared.content.Part.{Part}
+use Rattle.vd_scopes.specs.Agreement.{IsDisagreement}
+use Rattle.vd_scopes.specs.Cells.{IsLarge}
+use Rattle.vd_scopes.specs.Completeness.{FailsComplete}
+use Rattle.vd_scopes.specs.Declaration.{Bytes, IsSection}
+use Rattle.vd_scopes.specs.Known.{IsUnknown}
+use Rattle.vd_scopes.specs.Twice.{FailsTwice}
+
+-- A condition fails of the part of that number, at a place: of 2, 4 and 5 it is that of the header line of the section.
+pub data Fails (parts : List Part) (own : ℕ) : ℕ → ℕ → Type 0 where
+  unread : {i place : ℕ} {h : HeadSection} → IsSection parts own i h → h.content ≡ content.Unread place → Fails parts own 1 place
+  unknown : {i : ℕ} {h : HeadSection} → IsSection parts own i h → IsUnknown parts own h.content → Fails parts own 2 h.place
+  twice : {place : ℕ} → FailsTwice parts own place → Fails parts own 3 place
+  disagreement : {i : ℕ} {h : HeadSection} → IsSection parts own i h → IsDisagreement parts own h.content → Fails parts own 4 h.place
+  large : {i : ℕ} {h : HeadSection} → IsSection parts own i h → IsLarge parts own h.content → Fails parts own 5 h.place
+
+-- A condition fails of the own text, the first part, which has these header lines beside its head part.
+pub data FailsOwn (parts : List Part) (lines : Bytes) : ℕ → ℕ → Type 0 where
+  of_part : {condition place : ℕ} → Fails parts 0 condition place → FailsOwn parts lines condition place
+  incomplete : {place : ℕ} → FailsComplete lines parts 0 place → FailsOwn parts lines 6 place
+
+-- Of what fails this is the first: the lowest condition, and of that the smallest place.
+pub record IsFirst (F : ℕ → ℕ → Type 0) (condition place : ℕ) : Type 0 where
+  pub fails : F condition place
+  pub lowest : (other at : ℕ) → F other at → condition ≤ other
+  pub least : (at : ℕ) → F condition at → place ≤ at
+
+-- nothing fails
+abbrev pub AllHold : (ℕ → ℕ → Type 0) → Type 0
+AllHold F = (condition place : ℕ) → F condition place → ⊥
+
+-- The part of that number is the first of which a condition fails, and this is the first that does.
+pub record IsFirstPart (parts : List Part) (condition place : ℕ) : Type 0 where
+  pub number : ℕ
+  pub stands : number < length parts
+  pub first : IsFirst (Fails parts number) condition place
+  pub before : (k : ℕ) → k < number → AllHold (Fails parts k)
+
+-- what fails first: of the own text, where its header lines are there, else of the first part of which something does
+abbrev pub Refuses : List Part → Option Bytes → ℕ → ℕ → Type 0
+Refuses parts None condition place = IsFirstPart parts condition place
+Refuses parts (Some lines) condition place = IsFirst (FailsOwn parts lines) condition place
+
+-- nothing does
+abbrev pub Accepts : List Part → Option Bytes → Type 0
+Accepts parts None = (k : ℕ) → k < length parts → AllHold (Fails parts k)
+Accepts parts (Some lines) = AllHold (FailsOwn parts lines)

@@ -1,0 +1,133 @@
+-- Condition 2: a name is unknown.
+use Rattle.std.specs.Prelude.{◌≡◌, ◌⊎◌, ◌||◌, ℕ, Bool, true, false, not, List, [], ◌∷◌, ◌++◌, map, flat_map, Option, None, Some}
+use Rattle.std.specs.List.{Contains, list_any}
+use Rattle.std.specs.Str.{bytes_eq}
+use Rattle.vd_base.specs.declared.ctype.CType.{CType, CType-F, fold-CType}
+use Rattle.vd_base.specs.declared.ctype.CType.TheOpen as typ
+use Rattle.vd_base.specs.declared.ctype.Field.{Field}
+use Rattle.vd_clight.specs.declared.program.Init.{Init}
+use Rattle.vd_clight.specs.declared.program.Init.TheVariants as init
+use Rattle.vd_logic.specs.declared.assertion.Assertion.{Assertion}
+use Rattle.vd_logic.specs.declared.assertion.Item.{Item}
+use Rattle.vd_logic.specs.declared.assertion.Item.TheVariants as item
+use Rattle.vd_logic.specs.declared.assertion.Label.{Label}
+use Rattle.vd_logic.specs.declared.assertion.PredDef.{PredDef}
+use Rattle.vd_logic.specs.declared.assertion.Prop.{Prop}
+use Rattle.vd_logic.specs.declared.assertion.Prop.TheVariants as prop
+use Rattle.vd_logic.specs.declared.assertion.Spec.{Spec}
+use Rattle.vd_logic.specs.declared.term.Term.{Term, Term-F, fold-Term}
+use Rattle.vd_logic.specs.declared.term.Term.TheOpen as layer
+use Rattle.vd_scopes.specs.declared.content.Content.{Content}
+use Rattle.vd_scopes.specs.declared.content.Content.TheVariants as content
+use Rattle.vd_scopes.specs.declared.content.Part.{Part}
+use Rattle.vd_scopes.specs.declared.table.Space.{Space}
+use Rattle.vd_scopes.specs.declared.table.Space.TheVariants as space
+use Rattle.vd_scopes.specs.Declaration.{Bytes}
+use Rattle.vd_scopes.specs.Closure.{Knows}
+
+-- a name that has to be declared, in its name space
+abbrev pub Need : Type 0
+Need = Space × Bytes
+
+-- ---- types: a pointer may point to any struct
+
+abbrev pub held_layer : CType-F (Option Bytes) → Option Bytes
+held_layer (typ.Struct name) = Some name
+held_layer (typ.Array of n) = of
+held_layer _ = None
+
+-- the struct that a type holds by value
+unfoldable pub held : CType → Option Bytes
+held = fold-CType (Option Bytes) held_layer
+
+abbrev pub struct_need : Option Bytes → List Need
+struct_need None = []
+struct_need (Some name) = (space.Struct, name) ∷ []
+
+abbrev pub type_needs : CType → List Need
+type_needs t = struct_need (held t)
+
+abbrev pub field_needs : List Field → List Need
+field_needs fields = flat_map (λ f. type_needs f.typ) fields
+
+abbrev pub value_needs : Init → List Need
+value_needs (init.Int n) = []
+value_needs (init.Addr g) = (space.Global, g) ∷ []
+
+-- ---- terms: globals, and names for which nothing stands
+
+abbrev pub joined : List (List Need) → List Need
+joined xs = flat_map (λ x. x) xs
+
+abbrev pub term_layer : Term-F (List Need) → List Need
+term_layer (layer.Global g) = (space.Global, g) ∷ []
+term_layer (layer.App op args) = joined args
+term_layer _ = []
+
+unfoldable pub term_needs : Term → List Need
+term_needs = fold-Term (List Need) term_layer
+
+abbrev pub stray_layer : Term-F Bool → Bool
+stray_layer (layer.Named name) = true
+stray_layer (layer.App op args) = list_any (λ b. b) args
+stray_layer _ = false
+
+-- whether a name stands in a term that nothing in its section declares
+unfoldable pub has_stray : Term → Bool
+has_stray = fold-Term Bool stray_layer
+
+-- ---- assertions
+
+abbrev pub prop_terms : Prop → List Term
+prop_terms (prop.Rel rel a b) = a ∷ b ∷ []
+prop_terms (prop.IsInt a) = a ∷ []
+prop_terms (prop.IsPtr a) = a ∷ []
+prop_terms (prop.Each l a b) = l ∷ a ∷ b ∷ []
+
+abbrev pub item_labels : Item → List Label
+item_labels (item.Lock s p l) = l ∷ []
+item_labels (item.Holds p l) = l ∷ []
+item_labels (item.Pred l) = l ∷ []
+item_labels _ = []
+
+abbrev pub item_terms : Item → List Term
+item_terms (item.Data s p l) = s ∷ p ∷ l ∷ []
+item_terms (item.Lock s p l) = s ∷ p ∷ l.args
+item_terms (item.Holds p l) = p ∷ l.args
+item_terms (item.Token p n) = p ∷ n ∷ []
+item_terms (item.Pred l) = l.args
+
+-- all terms of an assertion
+abbrev pub terms_of : Assertion → List Term
+terms_of a = flat_map prop_terms a.props ++ (map (λ x. x.1) a.locals ++ flat_map item_terms a.items)
+
+-- all labels of an assertion: predicates with their arguments, as items and as locks' invariants
+abbrev pub labels_of : Assertion → List Label
+labels_of a = flat_map item_labels a.items
+
+abbrev pub assertion_needs : Assertion → List Need
+assertion_needs a = flat_map term_needs (terms_of a) ++ map (λ l. (space.Predicate, l.name)) (labels_of a)
+
+-- whether an assertion has a name for which nothing stands, where these are the names of temporaries
+abbrev pub has_strays : List Bytes → Assertion → Bool
+has_strays names a = list_any has_stray (terms_of a) || list_any (λ x. not (list_any (bytes_eq x.0) names)) a.locals
+
+-- ---- sections
+
+-- the names that a section's content needs
+abbrev pub needs : Content → List Need
+needs (content.Struct name fields) = field_needs fields
+needs (content.Global g values) = type_needs g.typ ++ flat_map value_needs values
+needs (content.Pred p twice) = flat_map assertion_needs p.cases
+needs (content.Spec f twice) = type_needs f.ret ++ (field_needs f.params ++ (assertion_needs f.pre ++ assertion_needs f.post))
+needs _ = []
+
+-- Whether it has a name for which nothing stands. The temporaries of a precondition are the parameters; a postcondition and a predicate's case have none.
+abbrev pub strays : Content → Bool
+strays (content.Pred p twice) = list_any (has_strays []) p.cases
+strays (content.Spec f twice) = has_strays (map (λ x. x.name) f.params) f.pre || has_strays [] f.post
+strays _ = false
+
+-- In a part of that number, the section says something in which a name is unknown. A name that is exported or used may have no text.
+abbrev pub IsUnknown : List Part → ℕ → Content → Type 0
+IsUnknown parts own c = (strays c ≡ true) ⊎ ((s : Space) × (name : Bytes) × Contains (needs c) (s, name) × (Knows parts own s name → ⊥))

@@ -1,0 +1,14 @@
+pub mod Listing
+pub mod LogicReader
+pub mod Head
+pub mod Declaration
+pub mod Closure
+pub mod Known
+pub mod Twice
+pub mod Sorts
+pub mod Cells
+pub mod Initial
+pub mod Agreement
+pub mod Completeness
+pub mod Failing
+pub mod Scope

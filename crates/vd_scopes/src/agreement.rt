@@ -1,0 +1,166 @@
+//! Sorts and types that disagree.
+
+use crate::content::Content;
+use crate::initial::values_fit;
+use crate::size::Sizes;
+use crate::sorts::{are_alike, have_sorts, is_of};
+use crate::table::Space;
+use crate::types::{same, same_types};
+use crate::view::View;
+use std::alloc::{AllocError, Global};
+use vd_base::{Name, are_fields};
+use vd_logic::{Assertion, Item, Label, PredDef, Prop, Rel, Sort, Spec, Term};
+
+fn prop_agrees(prop: &Prop) -> bool {
+    match prop {
+        Prop::Rel(Rel::Eq, a, b) | Prop::Rel(Rel::Ne, a, b) => are_alike(a, b),
+        Prop::Rel(Rel::Le, a, b) | Prop::Rel(Rel::Lt, a, b) => {
+            is_of(a, Sort::Int) && is_of(b, Sort::Int)
+        }
+        Prop::IsInt(a) | Prop::IsPtr(a) => is_of(a, Sort::Val),
+        Prop::Each(l, a, b) => {
+            is_of(l, Sort::List) && is_of(a, Sort::Int) && is_of(b, Sort::Int)
+        }
+    }
+}
+
+/// The sorts of a predicate's arguments.
+fn arguments(content: &Content) -> Option<&[Sort]> {
+    match content {
+        Content::Abstract(_, sorts, _) => Some(sorts.as_slice()),
+        Content::Pred(pred, _) => Some(pred.args.as_slice()),
+        _ => None,
+    }
+}
+
+/// Whether a label has the arguments that its predicate takes; nothing is said of a predicate that is not known.
+fn label_agrees(view: &View<'_>, label: &Label) -> bool {
+    match view.meaning(Space::Predicate, &label.name) {
+        Some(content) => match arguments(content) {
+            Some(sorts) => have_sorts(&label.args, sorts),
+            None => true,
+        },
+        None => true,
+    }
+}
+
+fn item_agrees(view: &View<'_>, item: &Item) -> bool {
+    match item {
+        Item::Data(s, p, l) => {
+            is_of(s, Sort::Int) && is_of(p, Sort::Val) && is_of(l, Sort::List)
+        }
+        Item::Lock(s, p, label) => {
+            is_of(s, Sort::Int) && is_of(p, Sort::Val) && label_agrees(view, label)
+        }
+        Item::Holds(p, label) => is_of(p, Sort::Val) && label_agrees(view, label),
+        Item::Token(p, n) => is_of(p, Sort::Val) && is_of(n, Sort::Int),
+        Item::Pred(label) => label_agrees(view, label),
+    }
+}
+
+fn props_agree(props: &[Prop]) -> bool {
+    for prop in props {
+        if !prop_agrees(prop) {
+            return false;
+        }
+    }
+    true
+}
+
+fn locals_agree(locals: &[(Name, Term)]) -> bool {
+    for local in locals {
+        if !is_of(&local.1, Sort::Val) {
+            return false;
+        }
+    }
+    true
+}
+
+fn items_agree(view: &View<'_>, items: &[Item]) -> bool {
+    for item in items {
+        if !item_agrees(view, item) {
+            return false;
+        }
+    }
+    true
+}
+
+fn assertion_agrees(view: &View<'_>, a: &Assertion) -> bool {
+    props_agree(a.props.as_slice())
+        && locals_agree(a.locals.as_slice())
+        && items_agree(view, a.items.as_slice())
+}
+
+fn same_sorts(a: &[Sort], b: &[Sort]) -> bool {
+    a == b
+}
+
+/// Whether a unit's own predicate takes what each exported interface says that declares it.
+fn pred_agrees(view: &View<'_>, pred: &PredDef) -> bool {
+    for case in pred.cases.as_slice() {
+        if !assertion_agrees(view, case) {
+            return false;
+        }
+    }
+    for spot in view.spots(Space::Predicate, pred.name.as_bytes()) {
+        if view.exports(spot.part) {
+            if let Some(Content::Abstract(_, sorts, _)) = view.content_at(*spot) {
+                if !same_sorts(sorts.as_slice(), pred.args.as_slice()) {
+                    return false;
+                }
+            }
+        }
+    }
+    true
+}
+
+/// Whether a unit's own specification has the types that each exported interface says that declares the function.
+fn spec_agrees(view: &View<'_>, spec: &Spec) -> bool {
+    for spot in view.spots(Space::Function, spec.name.as_bytes()) {
+        if view.exports(spot.part) {
+            if let Some(Content::Spec(other, _)) = view.content_at(*spot) {
+                if !same(&spec.ret, &other.ret)
+                    || !same_types(spec.params.as_slice(), other.params.as_slice())
+                {
+                    return false;
+                }
+            }
+        }
+    }
+    assertion_agrees(view, &spec.pre) && assertion_agrees(view, &spec.post)
+}
+
+fn content_agrees(
+    alloc: Global,
+    view: &View<'_>,
+    sizes: &Sizes<'_>,
+    content: &Content,
+) -> Result<bool, AllocError> {
+    match content {
+        Content::Uses(_) | Content::Exports(_) | Content::Abstract(_, _, _) => Ok(true),
+        Content::Unread(_) => Ok(true),
+        Content::Struct(_, fields) => Ok(are_fields(fields.as_slice())),
+        Content::Global(field, init) => {
+            if field.typ.is_void() {
+                return Ok(false);
+            }
+            values_fit(alloc, view, sizes, &field.typ, init.as_slice())
+        }
+        Content::Pred(pred, _) => Ok(pred_agrees(view, pred)),
+        Content::Spec(spec, _) => Ok(spec_agrees(view, spec)),
+    }
+}
+
+/// The place of the first section in which sorts or types disagree.
+pub(crate) fn first_disagreement(
+    alloc: Global,
+    view: &View<'_>,
+    sizes: &Sizes<'_>,
+) -> Result<Option<u32>, AllocError> {
+    for section in view.sections() {
+        if !content_agrees(alloc, view, sizes, &section.content)? {
+            return Ok(Some(section.place));
+        }
+    }
+    Ok(None)
+}

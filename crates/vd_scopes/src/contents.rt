@@ -1,0 +1,167 @@
+//! Reading head parts.
+
+use crate::content::{Content, HeadSection, Mention, Part};
+use crate::listing::names_in;
+use crate::logic_text::{LogicText, parse_logic};
+use std::alloc::{AllocError, Global};
+use vd_base::{List, Name, Text};
+use vd_cparse::{Decl, parse_decl};
+use vd_grammar::ParseFault;
+use vd_outline::{
+    Outline, OutlineFault, Section, SectionKind, TextKind, head_line, is_head, outline_of,
+};
+
+/// The place of a byte.
+fn place_of(at: usize) -> u32 {
+    u32::try_from(at).unwrap_or(u32::MAX)
+}
+
+/// The place of a byte of a section that begins there.
+fn place_in(at: usize, place: u32) -> u32 {
+    place_of(at.saturating_add(place as usize))
+}
+
+/// A section that begins there and is not read.
+fn unread(at: usize, fault: ParseFault) -> Result<Content, AllocError> {
+    match fault {
+        ParseFault::Bad(place) | ParseFault::Deep(place) => {
+            Ok(Content::Unread(place_in(at, place)))
+        }
+        ParseFault::Memory => Err(AllocError),
+    }
+}
+
+/// The names with their places in the head part.
+fn placed(alloc: Global, at: usize, names: List<Mention>) -> Result<List<Mention>, AllocError> {
+    let mut found = List::new(alloc);
+    for mention in names.into_vec() {
+        let Mention { name, place } = mention;
+        let place = place_in(at, place);
+        found.push(Mention { name, place })?;
+    }
+    Ok(found)
+}
+
+fn mentions(alloc: Global, at: usize, text: &Text, exports: bool) -> Result<Content, AllocError> {
+    match names_in(alloc, text) {
+        Ok(names) => {
+            let names = placed(alloc, at, names)?;
+            if exports {
+                Ok(Content::Exports(names))
+            } else {
+                Ok(Content::Uses(names))
+            }
+        }
+        Err(fault) => unread(at, fault),
+    }
+}
+
+fn declaration(alloc: Global, at: usize, text: &Text) -> Result<Content, AllocError> {
+    match parse_decl(alloc, text) {
+        Ok(Decl::Struct(name, fields)) => Ok(Content::Struct(name, fields)),
+        Ok(Decl::Global(field, init)) => Ok(Content::Global(field, init)),
+        Err(fault) => unread(at, fault),
+    }
+}
+
+fn logic(alloc: Global, at: usize, text: &Text) -> Result<Content, AllocError> {
+    match parse_logic(alloc, text) {
+        Ok(LogicText::Abstract(name, sorts, twice)) => Ok(Content::Abstract(name, sorts, twice)),
+        Ok(LogicText::Pred(pred, twice)) => Ok(Content::Pred(pred, twice)),
+        Ok(LogicText::Spec(spec, twice)) => Ok(Content::Spec(spec, twice)),
+        Ok(LogicText::Script(_, _)) | Ok(LogicText::Sub(_, _)) | Ok(LogicText::Init(_, _)) => {
+            Ok(Content::Unread(place_of(at)))
+        }
+        Err(fault) => unread(at, fault),
+    }
+}
+
+/// What a head section says that begins there.
+fn content_of(alloc: Global, at: usize, section: &Section) -> Result<Content, AllocError> {
+    match section.kind {
+        SectionKind::Exports => mentions(alloc, at, &section.text, true),
+        SectionKind::Struct | SectionKind::Global => declaration(alloc, at, &section.text),
+        SectionKind::Abstract | SectionKind::Pred | SectionKind::Spec => {
+            logic(alloc, at, &section.text)
+        }
+        SectionKind::Uses
+        | SectionKind::Units
+        | SectionKind::Fn
+        | SectionKind::Script
+        | SectionKind::Sub
+        | SectionKind::Init => mentions(alloc, at, &section.text, false),
+    }
+}
+
+/// The head sections, the first of which begins there.
+fn head_sections(
+    alloc: Global,
+    begin: usize,
+    sections: &[Section],
+) -> Result<List<HeadSection>, AllocError> {
+    let mut found = List::new(alloc);
+    let mut at = begin;
+    for section in sections {
+        if is_head(section.kind) {
+            let content = content_of(alloc, at, section)?;
+            let place = place_of(at);
+            found.push(HeadSection { place, content })?;
+            at = at.saturating_add(section.text.len());
+        }
+    }
+    Ok(found)
+}
+
+/// The head part of an outlined text.
+fn outlined_part(alloc: Global, outline: Outline) -> Result<Part, AllocError> {
+    let Outline {
+        kind,
+        name,
+        sections,
+    } = outline;
+    let line = head_line(alloc, kind, &name)?;
+    let sections = head_sections(alloc, line.len(), sections.as_slice())?;
+    Ok(Part {
+        head: Some((kind, name)),
+        sections,
+    })
+}
+
+/// A text that is no outline at this place.
+fn broken_part(alloc: Global, place: u32) -> Result<Part, AllocError> {
+    let mut sections = List::new(alloc);
+    let content = Content::Unread(place);
+    sections.push(HeadSection { place, content })?;
+    Ok(Part {
+        head: None,
+        sections,
+    })
+}
+
+/// What the head part of a text says.
+pub(crate) fn part_of(alloc: Global, text: &Text) -> Result<Part, AllocError> {
+    match outline_of(alloc, text) {
+        Ok(outline) => outlined_part(alloc, outline),
+        Err(OutlineFault::NoHead) => broken_part(alloc, 0),
+        Err(OutlineFault::Bad(place)) => broken_part(alloc, place),
+        Err(OutlineFault::Memory(fault)) => Err(fault),
+    }
+}
+
+impl Part {
+    /// Whether it is that of an interface of this name.
+    pub(crate) fn interface(&self) -> Option<&Name> {
+        match &self.head {
+            Some((TextKind::Interface, name)) => Some(name),
+            Some((TextKind::Unit, _)) | Some((TextKind::Link, _)) | None => None,
+        }
+    }
+
+    /// Whether it is that of a unit.
+    pub(crate) fn is_unit(&self) -> bool {
+        match &self.head {
+            Some((TextKind::Unit, _)) => true,
+            Some((TextKind::Interface, _)) | Some((TextKind::Link, _)) | None => false,
+        }
+    }
+}
