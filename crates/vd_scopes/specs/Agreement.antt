@@ -1,7 +1,6 @@
 -- Condition 4: sorts or types disagree, a field or global is void or an array of void, or initial values do not fit.
-use Rattle.std.specs.Prelude.{◌≡◌, ◌⊎◌, ℕ, nat_eq, Bool, true, false, not, ◌&&◌, List, [], ◌∷◌, map, Option, None, Some, ⊤}
+use Rattle.std.specs.Prelude.{◌≡◌, ◌⊎◌, ℕ, Bool, true, false, not, ◌&&◌, List, [], ◌∷◌, map, Option, None, Some, ⊤}
 use Rattle.std.specs.List.{Contains, list_all}
-use Rattle.std.specs.Cmp.Lexicographic.{pointwise}
 use Rattle.vd_base.specs.declared.ctype.Field.{Field}
 use Rattle.vd_base.specs.Layout.{is_void, are_fields}
 use Rattle.vd_logic.specs.declared.assertion.Assertion.{Assertion}
@@ -26,14 +25,9 @@ use Rattle.vd_scopes.specs.Declaration.{Bytes, IsDeclared, declares}
 use Rattle.vd_scopes.specs.Closure.{Exports, Means}
 use Rattle.vd_scopes.specs.Initial.{Misfits}
 use Rattle.vd_scopes.specs.Known.{labels_of}
-use Rattle.vd_scopes.specs.Sorts.{same_sort, is_sort, are_sorts, sort_of, is_of}
+use Rattle.vd_scopes.specs.Sorts.{are_alike, are_sorts, sort_of, is_of}
 
 -- ---- sorts in an assertion
-
--- two terms of one sort
-abbrev pub are_alike : Option Sort → Option Sort → Bool
-are_alike (Some s) t = is_sort t s
-are_alike None t = false
 
 abbrev pub relation_agrees : Rel → Term → Term → Bool
 relation_agrees rel.Eq a b = are_alike (sort_of a) (sort_of b)
@@ -74,9 +68,6 @@ takes None args = true
 takes (Some sorts) args = are_sorts (map sort_of args) sorts
 
 -- ---- a unit's own definition and what an exported interface declares
-
-abbrev pub same_sorts : List Sort → List Sort → Bool
-same_sorts a b = pointwise same_sort a b
 
 -- the types of fields, one by one
 abbrev pub SameTypes : List Field → List Field → Type 0

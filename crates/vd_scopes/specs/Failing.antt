@@ -1,5 +1,6 @@
 -- The conditions that head parts have to keep, and the first that fails.
 use Rattle.std.specs.Prelude.{◌≡◌, ◌≤◌, ◌<◌, ℕ, List, length, Option, None, Some}
+use Rattle.vd_scopes.specs.declared.content.Content.{Content}
 use Rattle.vd_scopes.specs.declared.content.Content.TheVariants as content
 use Rattle.vd_scopes.specs.declared.content.HeadSection.{HeadSection}
 use Rattle.vd_scopes.specs.declared.content.Part.{Part}
@@ -29,9 +30,27 @@ pub record IsFirst (F : ℕ → ℕ → Type 0) (condition place : ℕ) : Type 0
   pub lowest : (other at : ℕ) → F other at → condition ≤ other
   pub least : (at : ℕ) → F condition at → place ≤ at
 
+-- The sections of the part of which something is so have this place among theirs.
+pub record IsPlaceOf (parts : List Part) (own : ℕ) (P : Content → Type 0) (place : ℕ) : Type 0 where
+  pub number : ℕ
+  pub section : HeadSection
+  pub stands : IsSection parts own number section
+  pub holds : P section.content
+  pub place_is : place ≡ section.place
+
+-- the smallest place at which something is so, or none
+abbrev pub IsLeastOrNone : (ℕ → Type 0) → Option ℕ → Type 0
+IsLeastOrNone F None = (at : ℕ) → F at → ⊥
+IsLeastOrNone F (Some place) = F place × ((at : ℕ) → F at → place ≤ at)
+
 -- nothing fails
 abbrev pub AllHold : (ℕ → ℕ → Type 0) → Type 0
 AllHold F = (condition place : ℕ) → F condition place → ⊥
+
+-- the first that fails, place and condition, or that nothing does
+abbrev pub IsFirstOrNone : (ℕ → ℕ → Type 0) → Option (ℕ × ℕ) → Type 0
+IsFirstOrNone F None = AllHold F
+IsFirstOrNone F (Some at) = IsFirst F at.1 at.0
 
 -- The part of that number is the first of which a condition fails, and this is the first that does.
 pub record IsFirstPart (parts : List Part) (condition place : ℕ) : Type 0 where

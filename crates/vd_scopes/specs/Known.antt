@@ -131,3 +131,11 @@ strays _ = false
 -- In a part of that number, the section says something in which a name is unknown. A name that is exported or used may have no text.
 abbrev pub IsUnknown : List Part → ℕ → Content → Type 0
 IsUnknown parts own c = (strays c ≡ true) ⊎ ((s : Space) × (name : Bytes) × Contains (needs c) (s, name) × (Knows parts own s name → ⊥))
+
+-- All names that are needed are known.
+abbrev pub AllKnown : List Part → ℕ → List Need → Type 0
+AllKnown parts own ns = (s : Space) (name : Bytes) → Contains ns (s, name) → Knows parts own s name
+
+-- An assertion's names are known, where these are the names of temporaries.
+abbrev pub IsKnown : List Part → ℕ → List Bytes → Assertion → Type 0
+IsKnown parts own names a = (has_strays names a ≡ false) × AllKnown parts own (assertion_needs a)

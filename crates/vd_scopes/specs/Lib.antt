@@ -12,3 +12,4 @@ pub mod Agreement
 pub mod Completeness
 pub mod Failing
 pub mod Scope
+pub mod Views

@@ -35,6 +35,11 @@ abbrev pub with_name : Mention → Result (List Mention) ℕ → Result (List Me
 with_name m (Ok ms) = Ok (m ∷ ms)
 with_name m (Err place) = Err place
 
+-- names in front of others, or their fault
+abbrev pub with_names : List Mention → Result (List Mention) ℕ → Result (List Mention) ℕ
+with_names [] r = r
+with_names (m ∷ ms) r = with_name m (with_names ms r)
+
 -- where the tokens end, at the line `end` or at a byte that begins none
 abbrev pub ending : Bool → End → Result (List Mention) ℕ
 ending true (last.Text place) = Err place

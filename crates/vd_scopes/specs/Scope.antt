@@ -76,11 +76,16 @@ pub record AreScopes (parts : List Part) (scopes : Scopes) : Type 0 where
 abbrev pub HasSomeHead : Bytes → Type 0
 HasSomeHead text = (kind : TextKind) × (name : Bytes) × HasHead text kind name
 
+-- Texts in front of the one with header lines, and that text, where there is one: the last, if it is not the first and has no head line.
+pub data IsSplit (texts : List Bytes) : List Bytes → Option Bytes → Type 0 where
+  whole : ((front : List Bytes) (last : Bytes) → texts ≡ front ++ last ∷ [] → (front ≡ []) ⊎ HasSomeHead last) → IsSplit texts texts None
+  behind : {front : List Bytes} {lines : Bytes} → texts ≡ front ++ lines ∷ [] → front ≢ [] → (HasSomeHead lines → ⊥) → IsSplit texts front (Some lines)
+
 -- What texts say as the inputs of a work: head parts, and behind them the header lines of the own text's other sections, where the last text has no head line.
-pub data AreInputs (texts : List Bytes) : List Part → Option Bytes → Type 0 where
-  alone : {parts : List Part} → AreParts texts parts → ((front : List Bytes) (last : Bytes) → texts ≡ front ++ last ∷ [] → (front ≡ []) ⊎ HasSomeHead last) → AreInputs texts parts None
-  with_lines : {parts : List Part} {front : List Bytes} {lines : Bytes} → texts ≡ front ++ lines ∷ [] → front ≢ [] → (HasSomeHead lines → ⊥) → AreParts front parts
-      → AreInputs texts parts (Some lines)
+pub record AreInputs (texts : List Bytes) (parts : List Part) (lines : Option Bytes) : Type 0 where
+  pub front : List Bytes
+  pub split : IsSplit texts front lines
+  pub are : AreParts front parts
 
 -- what is answered of inputs, unless memory fails
 abbrev pub Answers : List Part → Option Bytes → Result Scopes HeadFault → Type 0

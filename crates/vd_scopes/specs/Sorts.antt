@@ -56,3 +56,8 @@ sort_of = fold-Term (Option Sort) sort_layer
 
 abbrev pub is_of : Sort → Term → Bool
 is_of s t = is_sort (sort_of t) s
+
+-- two terms of one sort
+abbrev pub are_alike : Option Sort → Option Sort → Bool
+are_alike (Some s) t = is_sort t s
+are_alike None t = false

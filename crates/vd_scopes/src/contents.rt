@@ -1,5 +1,14 @@
 //! Reading head parts.
 
+ghost use Rattle.std.specs.Prelude.{◌≡◌, ◌≢◌, ◌+◌, IfOk, OnOk, option_copied, IsTrue, ◌↔◌, All, Some, ℕ, List as Items};
+ghost use Rattle.vd_grammar.specs.declared.fault.ParseFault.TheVariants.{Memory};
+ghost use Rattle.vd_outline.specs.declared.outline.TextKind.{TextKind as Kind_of_text};
+ghost use Rattle.vd_outline.specs.declared.outline.TextKind.TheVariants as text_kind;
+ghost use Rattle.vd_outline.specs.Fault.{IsBad};
+ghost use Rattle.vd_outline.specs.HeadPart as head_part;
+ghost use Rattle.vd_outline.specs.Outline.{Bytes, HasHead, IsSection, Outlines};
+ghost use Rattle.vd_scopes.specs.Head as head;
+
 use crate::content::{Content, HeadSection, Mention, Part};
 use crate::listing::names_in;
 use crate::logic_text::{LogicText, parse_logic};
@@ -12,17 +21,24 @@ use vd_outline::{
 };
 
 /// The place of a byte.
-fn place_of(at: usize) -> u32 {
+fn place_of(at: usize) -> u32
+    ensures { result ≡ head.told at }
+{
     u32::try_from(at).unwrap_or(u32::MAX)
 }
 
 /// The place of a byte of a section that begins there.
-fn place_in(at: usize, place: u32) -> u32 {
+fn place_in(at: usize, place: u32) -> u32
+    ensures { result ≡ head.told (at + place) }
+{
     place_of(at.saturating_add(place as usize))
 }
 
 /// A section that begins there and is not read.
-fn unread(at: usize, fault: ParseFault) -> Result<Content, AllocError> {
+fn unread(at: usize, fault: ParseFault) -> Result<Content, AllocError>
+    ensures content { IfOk result (λ c. c ≡ head.fault_content at fault) }
+    ensures certain { OnOk result (fault ≢ Memory) }
+{
     match fault {
         ParseFault::Bad(place) | ParseFault::Deep(place) => {
             Ok(Content::Unread(place_in(at, place)))
@@ -32,7 +48,9 @@ fn unread(at: usize, fault: ParseFault) -> Result<Content, AllocError> {
 }
 
 /// The names with their places in the head part.
-fn placed(alloc: Global, at: usize, names: List<Mention>) -> Result<List<Mention>, AllocError> {
+fn placed(alloc: Global, at: usize, names: List<Mention>) -> Result<List<Mention>, AllocError>
+    ensures { IfOk result (λ found. found ≡ head.placed at names) }
+{
     let mut found = List::new(alloc);
     for mention in names.into_vec() {
         let Mention { name, place } = mention;
@@ -42,7 +60,10 @@ fn placed(alloc: Global, at: usize, names: List<Mention>) -> Result<List<Mention
     Ok(found)
 }
 
-fn mentions(alloc: Global, at: usize, text: &Text, exports: bool) -> Result<Content, AllocError> {
+fn mentions(alloc: Global, at: usize, text: &Text, exports: bool) -> Result<Content, AllocError>
+    ensures uses { (kind : Kind_of_text) (s : Section) → IsSection kind s → s.text ≡ text.now → exports ≡ false → IfOk result (head.Lists Content.Uses text.now at) }
+    ensures exports { (kind : Kind_of_text) (s : Section) → IsSection kind s → s.text ≡ text.now → exports ≡ true → IfOk result (head.Lists Content.Exports text.now at) }
+{
     match names_in(alloc, text) {
         Ok(names) => {
             let names = placed(alloc, at, names)?;
@@ -56,7 +77,9 @@ fn mentions(alloc: Global, at: usize, text: &Text, exports: bool) -> Result<Cont
     }
 }
 
-fn declaration(alloc: Global, at: usize, text: &Text) -> Result<Content, AllocError> {
+fn declaration(alloc: Global, at: usize, text: &Text) -> Result<Content, AllocError>
+    ensures { IfOk result (head.DeclaresC text.now at) }
+{
     match parse_decl(alloc, text) {
         Ok(Decl::Struct(name, fields)) => Ok(Content::Struct(name, fields)),
         Ok(Decl::Global(field, init)) => Ok(Content::Global(field, init)),
@@ -64,7 +87,9 @@ fn declaration(alloc: Global, at: usize, text: &Text) -> Result<Content, AllocEr
     }
 }
 
-fn logic(alloc: Global, at: usize, text: &Text) -> Result<Content, AllocError> {
+fn logic(alloc: Global, at: usize, text: &Text) -> Result<Content, AllocError>
+    ensures { IfOk result (head.DeclaresLogic text.now at) }
+{
     match parse_logic(alloc, text) {
         Ok(LogicText::Abstract(name, sorts, twice)) => Ok(Content::Abstract(name, sorts, twice)),
         Ok(LogicText::Pred(pred, twice)) => Ok(Content::Pred(pred, twice)),
@@ -77,7 +102,9 @@ fn logic(alloc: Global, at: usize, text: &Text) -> Result<Content, AllocError> {
 }
 
 /// What a head section says that begins there.
-fn content_of(alloc: Global, at: usize, section: &Section) -> Result<Content, AllocError> {
+fn content_of(alloc: Global, at: usize, section: &Section) -> Result<Content, AllocError>
+    ensures { (kind : Kind_of_text) → IsSection kind section.now → IfOk result (head.Says section.now.kind section.now.text at) }
+{
     match section.kind {
         SectionKind::Exports => mentions(alloc, at, &section.text, true),
         SectionKind::Struct | SectionKind::Global => declaration(alloc, at, &section.text),
@@ -98,7 +125,9 @@ fn head_sections(
     alloc: Global,
     begin: usize,
     sections: &[Section],
-) -> Result<List<HeadSection>, AllocError> {
+) -> Result<List<HeadSection>, AllocError>
+    ensures { (kind : Kind_of_text) → All (IsSection kind) sections.now → IfOk result (head.AllSay begin (head_part.head_sections sections.now)) }
+{
     let mut found = List::new(alloc);
     let mut at = begin;
     for section in sections {
@@ -113,7 +142,9 @@ fn head_sections(
 }
 
 /// The head part of an outlined text.
-fn outlined_part(alloc: Global, outline: Outline) -> Result<Part, AllocError> {
+fn outlined_part(alloc: Global, outline: Outline) -> Result<Part, AllocError>
+    ensures { (text : Bytes) → Outlines text outline → IfOk result (head.IsPart text) }
+{
     let Outline {
         kind,
         name,
@@ -128,7 +159,9 @@ fn outlined_part(alloc: Global, outline: Outline) -> Result<Part, AllocError> {
 }
 
 /// A text that is no outline at this place.
-fn broken_part(alloc: Global, place: u32) -> Result<Part, AllocError> {
+fn broken_part(alloc: Global, place: u32) -> Result<Part, AllocError>
+    ensures { IfOk result (λ part. part ≡ head.broken place) }
+{
     let mut sections = List::new(alloc);
     let content = Content::Unread(place);
     sections.push(HeadSection { place, content })?;
@@ -139,7 +172,9 @@ fn broken_part(alloc: Global, place: u32) -> Result<Part, AllocError> {
 }
 
 /// What the head part of a text says.
-pub(crate) fn part_of(alloc: Global, text: &Text) -> Result<Part, AllocError> {
+pub(crate) fn part_of(alloc: Global, text: &Text) -> Result<Part, AllocError>
+    ensures { IfOk result (head.IsPart text.now) }
+{
     match outline_of(alloc, text) {
         Ok(outline) => outlined_part(alloc, outline),
         Err(OutlineFault::NoHead) => broken_part(alloc, 0),

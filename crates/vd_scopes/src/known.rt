@@ -1,5 +1,11 @@
 //! Names that nothing declares.
 
+ghost use Rattle.std.specs.Prelude.{◌≡◌, ◌↔◌, ℕ, List as Items, [], map, flat_map, true, false, IfOk, IsTrue};
+ghost use Rattle.std.specs.List.{list_any};
+ghost use Rattle.vd_scopes.specs.Failing.{IsLeastOrNone, IsPlaceOf};
+ghost use Rattle.vd_scopes.specs.Known as known;
+ghost use Rattle.vd_scopes.specs.Views.{IsView};
+
 use crate::content::Content;
 use crate::table::Space;
 use crate::types::held;
@@ -11,14 +17,20 @@ use vd_clight::Init;
 use vd_logic::{Assertion, Item, Label, Prop, Spec, Term};
 
 /// Whether the struct is known that the type holds by value.
-fn knows_type(view: &View<'_>, t: &CType) -> bool {
+fn knows_type(view: &View<'_>, t: &CType) -> bool
+    requires { IsView view.now }
+    ensures { IsTrue result ↔ known.AllKnown view.now.parts.now view.now.own (known.type_needs t.now) }
+{
     match held(t) {
         Some(name) => view.knows(Space::Struct, name),
         None => true,
     }
 }
 
-fn knows_fields(view: &View<'_>, fields: &[Field]) -> bool {
+fn knows_fields(view: &View<'_>, fields: &[Field]) -> bool
+    requires { IsView view.now }
+    ensures { IsTrue result ↔ known.AllKnown view.now.parts.now view.now.own (known.field_needs fields.now) }
+{
     for field in fields {
         if !knows_type(view, &field.typ) {
             return false;
@@ -27,7 +39,10 @@ fn knows_fields(view: &View<'_>, fields: &[Field]) -> bool {
     true
 }
 
-fn knows_values(view: &View<'_>, values: &[Init]) -> bool {
+fn knows_values(view: &View<'_>, values: &[Init]) -> bool
+    requires { IsView view.now }
+    ensures { IsTrue result ↔ known.AllKnown view.now.parts.now view.now.own (flat_map known.value_needs values.now) }
+{
     for value in values {
         match value {
             Init::Int(_) => {}
@@ -42,7 +57,10 @@ fn knows_values(view: &View<'_>, values: &[Init]) -> bool {
 }
 
 #[cycle(term)]
-fn knows_term(view: &View<'_>, term: &Term) -> bool {
+fn knows_term(view: &View<'_>, term: &Term) -> bool
+    requires { IsView view.now }
+    ensures { IsTrue result ↔ ((known.has_stray term.now ≡ false) × known.AllKnown view.now.parts.now view.now.own (known.term_needs term.now)) }
+{
     match term {
         Term::Num(_) | Term::Var(_, _) => true,
         Term::Named(_) => false,
@@ -52,7 +70,10 @@ fn knows_term(view: &View<'_>, term: &Term) -> bool {
 }
 
 #[cycle(term)]
-fn knows_terms(view: &View<'_>, terms: &List<Term>) -> bool {
+fn knows_terms(view: &View<'_>, terms: &List<Term>) -> bool
+    requires { IsView view.now }
+    ensures { IsTrue result ↔ ((list_any known.has_stray terms.now ≡ false) × known.AllKnown view.now.parts.now view.now.own (flat_map known.term_needs terms.now)) }
+{
     for term in terms.as_slice() {
         if !knows_term(view, term) {
             return false;
@@ -144,7 +165,10 @@ fn knows_spec(alloc: Global, view: &View<'_>, spec: &Spec) -> Result<bool, Alloc
 }
 
 /// Whether all names in a section are known.
-fn knows_content(alloc: Global, view: &View<'_>, content: &Content) -> Result<bool, AllocError> {
+fn knows_content(alloc: Global, view: &View<'_>, content: &Content) -> Result<bool, AllocError>
+    requires { IsView view.now }
+    ensures { IfOk result (λ all. IsTrue all ↔ (known.IsUnknown view.now.parts.now view.now.own content.now → ⊥)) }
+{
     match content {
         Content::Uses(_) | Content::Exports(_) | Content::Abstract(_, _, _) => Ok(true),
         Content::Unread(_) => Ok(true),
@@ -158,7 +182,10 @@ fn knows_content(alloc: Global, view: &View<'_>, content: &Content) -> Result<bo
 }
 
 /// The place of the first section in which a name is unknown.
-pub(crate) fn first_unknown(alloc: Global, view: &View<'_>) -> Result<Option<u32>, AllocError> {
+pub(crate) fn first_unknown(alloc: Global, view: &View<'_>) -> Result<Option<u32>, AllocError>
+    requires { IsView view.now }
+    ensures { IfOk result (IsLeastOrNone (IsPlaceOf view.now.parts.now view.now.own (known.IsUnknown view.now.parts.now view.now.own))) }
+{
     for section in view.sections() {
         if !knows_content(alloc, view, &section.content)? {
             return Ok(Some(section.place));

@@ -1,5 +1,14 @@
 //! Sections that list names: `uses`, `exports`, `units`.
 
+ghost use Rattle.std.specs.Prelude.{◌≡◌, ◌<◌, ◌+◌, ◌^◌, ℕ, length, List as Items, Result, Ok, Err, true, false, IfOk, IsErrOf};
+ghost use Rattle.vd_outline.specs.Lines.{lacks};
+ghost use Rattle.vd_tokens.specs.declared.alphabet.Alphabet.TheVariants.{Declaration};
+ghost use Rattle.vd_tokens.specs.declared.token.End.{End as Ended};
+ghost use Rattle.vd_tokens.specs.Lexeme.{Lexeme, lexeme_of, lexemes_of};
+ghost use Rattle.vd_tokens.specs.Text.{Tokenizes};
+ghost use Rattle.vd_scopes.specs.declared.content.Mention.{Mention as Mentioned};
+ghost use Rattle.vd_scopes.specs.Listing as listing;
+
 use crate::content::Mention;
 use std::alloc::{AllocError, Global};
 use vd_base::{List, Name, NameFault, Text};
@@ -26,7 +35,10 @@ impl From<AllocError> for Stopped {
     }
 }
 
-fn mention_of(alloc: Global, token: &Token<'_>) -> Result<Mention, Stopped> {
+fn mention_of(alloc: Global, token: &Token<'_>) -> Result<Mention, Stopped>
+    ensures name { IfOk result (λ m. (listing.is_name_token (lexeme_of token.now) ≡ true) × (m ≡ listing.mention_of (lexeme_of token.now))) }
+    ensures at { (place : ℕ) → IsErrOf result (Stopped.At place) → (listing.is_name_token (lexeme_of token.now) ≡ false) × (place ≡ token.now.place) }
+{
     if token.kind != TokenKind::Word {
         return Err(Stopped::At(token.place));
     }
@@ -41,7 +53,10 @@ fn mention_of(alloc: Global, token: &Token<'_>) -> Result<Mention, Stopped> {
 }
 
 /// The names that tokens list, and whether one more has to follow.
-fn listed(alloc: Global, tokens: &[Token<'_>]) -> Result<(List<Mention>, bool), Stopped> {
+fn listed(alloc: Global, tokens: &[Token<'_>]) -> Result<(List<Mention>, bool), Stopped>
+    ensures names { IfOk result (λ found. (end : Ended) → listing.listed true (lexemes_of tokens.now) end ≡ listing.with_names found.0 (listing.ending found.1 end)) }
+    ensures at { (place : ℕ) → IsErrOf result (Stopped.At place) → (end : Ended) → listing.listed true (lexemes_of tokens.now) end ≡ Err place }
+{
     let mut names = List::new(alloc);
     let mut wants_name = true;
     for token in tokens {
@@ -58,7 +73,11 @@ fn listed(alloc: Global, tokens: &[Token<'_>]) -> Result<(List<Mention>, bool), 
 }
 
 /// The names in the content of a section, whose first byte has this place.
-fn listed_in(alloc: Global, content: &[u8], place: u32) -> Result<List<Mention>, Stopped> {
+fn listed_in(alloc: Global, content: &[u8], place: u32) -> Result<List<Mention>, Stopped>
+    requires { place + length content.now < 2 ^ 32 }
+    ensures names { IfOk result (λ names. (ts : Items Lexeme) (end : Ended) → Tokenizes Declaration place content.now ts end → listing.listed true ts end ≡ Ok names) }
+    ensures at { (at : ℕ) → IsErrOf result (Stopped.At at) → (ts : Items Lexeme) (end : Ended) → Tokenizes Declaration place content.now ts end → listing.listed true ts end ≡ Err at }
+{
     let found = tokenize(alloc, Alphabet::Declaration, content, place)?;
     let (names, wants_name) = listed(alloc, found.tokens.as_slice())?;
     match found.end {
@@ -76,7 +95,11 @@ fn listed_in(alloc: Global, content: &[u8], place: u32) -> Result<List<Mention>,
 /// The names, one or more with `,` between them, of a section whose header line has no name, given by its text from that
 /// line to the line `end`, both included; with their places in it. `Bad` has the place of the first token that cannot
 /// stand where it stands, the line `end` being one. A text of 4 GiB or more is beyond the reader's memory.
-pub fn names_in(alloc: Global, text: &Text) -> Result<List<Mention>, ParseFault> {
+pub fn names_in(alloc: Global, text: &Text) -> Result<List<Mention>, ParseFault>
+    ensures names { IfOk result (λ names. (answer : Result (Items Mentioned) ℕ) → listing.IsListing text.now answer → answer ≡ Ok names) }
+    ensures at { (place : ℕ) → IsErrOf result (ParseFault.Bad place) → (answer : Result (Items Mentioned) ℕ) → listing.IsListing text.now answer → answer ≡ Err place }
+    ensures never_deep { (place : ℕ) → IsErrOf result (ParseFault.Deep place) → ⊥ }
+{
     let bytes = text.as_bytes();
     if bytes.len() > 4294967295 {
         return Err(ParseFault::Memory);

@@ -1,10 +1,16 @@
 //! Sorts of terms.
 
+ghost use Rattle.std.specs.Prelude.{◌≡◌, map};
+ghost use Rattle.vd_scopes.specs.Sorts as sorts;
+
 use vd_base::List;
 use vd_logic::{Op, Sort, Term};
 
 /// What an operation takes, and what it gives.
-pub(crate) fn signature(op: Op) -> (&'static [Sort], Sort) {
+pub(crate) fn signature(op: Op) -> (&'static [Sort], Sort)
+    ensures args { result.0.now ≡ (sorts.signature op).0 }
+    ensures given { result.1 ≡ (sorts.signature op).1 }
+{
     match op {
         Op::Add | Op::Sub | Op::Mul => (&[Sort::Int, Sort::Int], Sort::Int),
         Op::Quot | Op::Rem => (&[Sort::Int, Sort::Int], Sort::Int),
@@ -29,7 +35,9 @@ pub(crate) fn signature(op: Op) -> (&'static [Sort], Sort) {
 
 /// The sort of a term, where its parts agree. A name that nothing declares has none.
 #[cycle(sort)]
-pub(crate) fn sort_of(term: &Term) -> Option<Sort> {
+pub(crate) fn sort_of(term: &Term) -> Option<Sort>
+    ensures { result ≡ sorts.sort_of term.now }
+{
     match term {
         Term::Num(_) => Some(Sort::Int),
         Term::Var(_, sort) => Some(*sort),
@@ -48,7 +56,9 @@ pub(crate) fn sort_of(term: &Term) -> Option<Sort> {
 
 /// Whether terms have these sorts, one by one.
 #[cycle(sort)]
-pub(crate) fn have_sorts(terms: &List<Term>, sorts: &[Sort]) -> bool {
+pub(crate) fn have_sorts(terms: &List<Term>, sorts: &[Sort]) -> bool
+    ensures { result ≡ sorts.are_sorts (map sorts.sort_of terms.now) sorts.now }
+{
     if terms.len() != sorts.len() {
         return false;
     }
@@ -61,12 +71,16 @@ pub(crate) fn have_sorts(terms: &List<Term>, sorts: &[Sort]) -> bool {
 }
 
 /// Whether a term has a sort.
-pub(crate) fn is_of(term: &Term, sort: Sort) -> bool {
+pub(crate) fn is_of(term: &Term, sort: Sort) -> bool
+    ensures { result ≡ sorts.is_of sort term.now }
+{
     sort_of(term) == Some(sort)
 }
 
 /// Whether two terms have one sort.
-pub(crate) fn are_alike(a: &Term, b: &Term) -> bool {
+pub(crate) fn are_alike(a: &Term, b: &Term) -> bool
+    ensures { result ≡ sorts.are_alike (sorts.sort_of a.now) (sorts.sort_of b.now) }
+{
     match sort_of(a) {
         Some(sort) => is_of(b, sort),
         None => false,

@@ -1,5 +1,10 @@
 //! Names that are declared twice.
 
+ghost use Rattle.std.specs.Prelude.{◌≡◌, ◌≤◌, ℕ, min, Some, IfOk, MatchOption};
+ghost use Rattle.vd_scopes.specs.Failing.{IsLeastOrNone};
+ghost use Rattle.vd_scopes.specs.Twice as twice;
+ghost use Rattle.vd_scopes.specs.Views.{IsView};
+
 use crate::content::Content;
 use crate::table::{Space, Spot};
 use crate::view::View;
@@ -77,7 +82,9 @@ fn first_twofold(view: &View<'_>, space: Space) -> Option<u32> {
 }
 
 /// Whether two fields have one name.
-fn has_twins(alloc: Global, fields: &[Field]) -> Result<bool, AllocError> {
+fn has_twins(alloc: Global, fields: &[Field]) -> Result<bool, AllocError>
+    ensures { IfOk result (λ found. found ≡ twice.have_twins fields.now) }
+{
     let mut names = BTreeSet::new(alloc);
     for field in fields {
         if !names.insert(field.name.as_bytes())? {
@@ -88,7 +95,9 @@ fn has_twins(alloc: Global, fields: &[Field]) -> Result<bool, AllocError> {
 }
 
 /// Whether a name stands twice inside a section: two fields or parameters, or variables of which one hides another.
-fn repeats(alloc: Global, content: &Content) -> Result<bool, AllocError> {
+fn repeats(alloc: Global, content: &Content) -> Result<bool, AllocError>
+    ensures { IfOk result (λ found. found ≡ twice.repeats content.now) }
+{
     match content {
         Content::Struct(_, fields) => has_twins(alloc, fields.as_slice()),
         Content::Abstract(_, _, twice) | Content::Pred(_, twice) => Ok(*twice),
@@ -100,7 +109,10 @@ fn repeats(alloc: Global, content: &Content) -> Result<bool, AllocError> {
 }
 
 /// The first place at which a name is declared twice.
-pub(crate) fn first_twice(alloc: Global, view: &View<'_>) -> Result<Option<u32>, AllocError> {
+pub(crate) fn first_twice(alloc: Global, view: &View<'_>) -> Result<Option<u32>, AllocError>
+    requires { IsView view.now }
+    ensures { IfOk result (IsLeastOrNone (twice.FailsTwice view.now.parts.now view.now.own)) }
+{
     let mut first = None;
     for space in [
         Space::Struct,

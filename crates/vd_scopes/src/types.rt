@@ -1,9 +1,15 @@
 //! Types in declarations.
 
+ghost use Rattle.std.specs.Prelude.{◌≡◌, ◌↔◌, option_copied, IsTrue};
+ghost use Rattle.vd_scopes.specs.Known as known;
+ghost use Rattle.vd_scopes.specs.Agreement.{SameTypes};
+
 use vd_base::{CType, Field, Name};
 
 /// The struct that a type holds by value.
-pub(crate) fn held(t: &CType) -> Option<&Name> {
+pub(crate) fn held(t: &CType) -> Option<&Name>
+    ensures { option_copied result ≡ known.held t.now }
+{
     match t {
         CType::Struct(name) => Some(name),
         CType::Array(of, _) => held(of.get()),
@@ -12,7 +18,9 @@ pub(crate) fn held(t: &CType) -> Option<&Name> {
 }
 
 /// Whether two types are the same.
-pub(crate) fn same(a: &CType, b: &CType) -> bool {
+pub(crate) fn same(a: &CType, b: &CType) -> bool
+    ensures { IsTrue result ↔ (a.now ≡ b.now) }
+{
     match (a, b) {
         (CType::Void, CType::Void) => true,
         (CType::Int, CType::Int) => true,
@@ -26,7 +34,9 @@ pub(crate) fn same(a: &CType, b: &CType) -> bool {
 }
 
 /// Whether fields have the same types, one by one.
-pub(crate) fn same_types(a: &[Field], b: &[Field]) -> bool {
+pub(crate) fn same_types(a: &[Field], b: &[Field]) -> bool
+    ensures { IsTrue result ↔ SameTypes a.now b.now }
+{
     if a.len() != b.len() {
         return false;
     }

@@ -1,5 +1,12 @@
 //! The first condition that fails, and the scopes where none does.
 
+ghost use Rattle.std.specs.Prelude.{◌≡◌, ℕ, IfOk, MatchOption, Option, option_copied};
+ghost use Rattle.vd_scopes.specs.declared.content.Part.{Part as Parted};
+ghost use Rattle.vd_scopes.specs.Failing as failing;
+ghost use Rattle.vd_scopes.specs.Head as head;
+ghost use Rattle.vd_scopes.specs.Scope.{AnswersTexts, SaySomething, IsSplit};
+ghost use Rattle.vd_scopes.specs.Views.{IsTable, IsView};
+
 use crate::agreement::first_disagreement;
 use crate::completeness::{Bodies, first_lack};
 use crate::content::{Content, Part};
@@ -47,7 +54,10 @@ fn first_unread(view: &View<'_>) -> Option<u32> {
 }
 
 /// The first of the conditions 1 to 5 that fails of a part, and where.
-fn first_failing(alloc: Global, view: &View<'_>) -> Result<Option<(u32, u8)>, AllocError> {
+fn first_failing(alloc: Global, view: &View<'_>) -> Result<Option<(u32, u8)>, AllocError>
+    requires { IsView view.now }
+    ensures { IfOk result (failing.IsFirstOrNone (failing.Fails view.now.parts.now view.now.own)) }
+{
     if let Some(place) = first_unread(view) {
         return Ok(Some((place, 1)));
     }
@@ -72,7 +82,11 @@ fn header_failing(
     alloc: Global,
     view: &View<'_>,
     lines: &Text,
-) -> Result<Option<(u32, u8)>, AllocError> {
+) -> Result<Option<(u32, u8)>, AllocError>
+    requires view { IsView view.now }
+    requires own { view.now.own ≡ 0 }
+    ensures { IfOk result (failing.IsFirstOrNone (failing.FailsOwn view.now.parts.now lines.now)) }
+{
     if let Some(failing) = first_failing(alloc, view)? {
         return Ok(Some(failing));
     }
@@ -88,7 +102,10 @@ fn any_failing(
     alloc: Global,
     parts: &[Part],
     table: &Table<'_>,
-) -> Result<Option<(u32, u8)>, AllocError> {
+) -> Result<Option<(u32, u8)>, AllocError>
+    requires { IsTable parts.now table.now }
+    ensures { IfOk result (λ found. MatchOption found (failing.Accepts parts.now None) (λ at. failing.Refuses parts.now None at.1 at.0)) }
+{
     for number in 0..parts.len() {
         let view = View::of(alloc, parts, table, number)?;
         if let Some(failing) = first_failing(alloc, &view)? {
@@ -99,7 +116,9 @@ fn any_failing(
 }
 
 /// The text of header lines among the parts: the last, where it is not the first and has no head line.
-fn split_lines(alloc: Global, parts: &[Text]) -> Result<(&[Text], Option<&Text>), AllocError> {
+fn split_lines(alloc: Global, parts: &[Text]) -> Result<(&[Text], Option<&Text>), AllocError>
+    ensures { IfOk result (λ split. IsSplit parts.now split.0.now (option_copied split.1)) }
+{
     match parts {
         [front @ .., last] => {
             if front.is_empty() || head_of(alloc, last)?.is_some() {
@@ -112,7 +131,9 @@ fn split_lines(alloc: Global, parts: &[Text]) -> Result<(&[Text], Option<&Text>)
     }
 }
 
-fn parts_of(alloc: Global, texts: &[Text]) -> Result<List<Part>, AllocError> {
+fn parts_of(alloc: Global, texts: &[Text]) -> Result<List<Part>, AllocError>
+    ensures { IfOk result (head.AreParts texts.now) }
+{
     let mut parts = List::new(alloc);
     for text in texts {
         parts.push(part_of(alloc, text)?)?;
@@ -134,7 +155,10 @@ fn parts_of(alloc: Global, texts: &[Text]) -> Result<List<Part>, AllocError> {
 /// 6. A unit lacks a definition, a function, a specification or a subsumption.
 ///
 /// Of the first condition that fails the smallest place counts.
-pub fn scopes(alloc: Global, parts: &List<Text>) -> Result<Scopes, HeadFault> {
+pub fn scopes(alloc: Global, parts: &List<Text>) -> Result<Scopes, HeadFault>
+    ensures answers { AnswersTexts parts.now result }
+    ensures something { SaySomething parts.now result }
+{
     let (texts, lines) = split_lines(alloc, parts.as_slice())?;
     let parts = parts_of(alloc, texts)?;
     let table = Table::of(alloc, parts.as_slice())?;
