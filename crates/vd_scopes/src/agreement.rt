@@ -5,6 +5,7 @@ use crate::initial::values_fit;
 use crate::size::Sizes;
 use crate::sorts::{are_alike, have_sorts, is_of};
 use crate::table::Space;
+use crate::twice::least;
 use crate::types::{same, same_types};
 use crate::view::View;
 use std::alloc::{AllocError, Global};
@@ -151,16 +152,17 @@ fn content_agrees(
     }
 }
 
-/// The place of the first section in which sorts or types disagree.
+/// The smallest place of a section in which sorts or types disagree.
 pub(crate) fn first_disagreement(
     alloc: Global,
     view: &View<'_>,
     sizes: &Sizes<'_>,
 ) -> Result<Option<u32>, AllocError> {
+    let mut first = None;
     for section in view.sections() {
         if !content_agrees(alloc, view, sizes, &section.content)? {
-            return Ok(Some(section.place));
+            first = least(first, section.place);
         }
     }
-    Ok(None)
+    Ok(first)
 }

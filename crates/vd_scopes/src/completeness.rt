@@ -136,14 +136,15 @@ fn defines_all(view: &View<'_>, bodies: &Bodies<'_>, mention: &Mention) -> bool 
     true
 }
 
-/// The first place of an exported interface, of those mentioned, that asks for what is missing.
+/// The smallest place of an exported interface, of those mentioned, that asks for what is missing.
 fn first_missing(view: &View<'_>, bodies: &Bodies<'_>, mentions: &[Mention]) -> Option<u32> {
+    let mut first = None;
     for mention in mentions {
         if !defines_all(view, bodies, mention) {
-            return Some(mention.place);
+            first = least(first, mention.place);
         }
     }
-    None
+    first
 }
 
 /// Whether a specification of the unit has its function, and its subsumption where an interface exports it.
@@ -154,7 +155,7 @@ fn is_served(view: &View<'_>, bodies: &Bodies<'_>, name: &[u8]) -> bool {
     bodies.subs.contains(name) || !has_exported_spec(view, name)
 }
 
-/// The first place at which a unit lacks what is asked of it.
+/// The smallest place at which a unit lacks what is asked of it.
 pub(crate) fn first_lack(view: &View<'_>, bodies: &Bodies<'_>) -> Option<u32> {
     if !view.is_unit() {
         return None;

@@ -8,6 +8,7 @@ ghost use Rattle.vd_scopes.specs.Views.{IsView};
 
 use crate::content::Content;
 use crate::table::Space;
+use crate::twice::least;
 use crate::types::held;
 use crate::view::View;
 use std::alloc::{AllocError, Global};
@@ -86,9 +87,7 @@ fn knows_prop(view: &View<'_>, prop: &Prop) -> bool {
     match prop {
         Prop::Rel(_, a, b) => knows_term(view, a) && knows_term(view, b),
         Prop::IsInt(a) | Prop::IsPtr(a) => knows_term(view, a),
-        Prop::Each(l, a, b) => {
-            knows_term(view, l) && knows_term(view, a) && knows_term(view, b)
-        }
+        Prop::Each(l, a, b) => { knows_term(view, l) && knows_term(view, a) && knows_term(view, b) }
     }
 }
 
@@ -158,10 +157,12 @@ fn knows_spec(alloc: Global, view: &View<'_>, spec: &Spec) -> Result<bool, Alloc
         names.insert(field.name.as_bytes())?;
     }
     let none = BTreeSet::new(alloc);
-    Ok(knows_type(view, &spec.ret)
-        && knows_fields(view, spec.params.as_slice())
-        && knows_assertion(view, &names, &spec.pre)
-        && knows_assertion(view, &none, &spec.post))
+    Ok(
+        knows_type(view, &spec.ret)
+            && knows_fields(view, spec.params.as_slice())
+            && knows_assertion(view, &names, &spec.pre)
+            && knows_assertion(view, &none, &spec.post),
+    )
 }
 
 /// Whether all names in a section are known.
@@ -181,15 +182,16 @@ fn knows_content(alloc: Global, view: &View<'_>, content: &Content) -> Result<bo
     }
 }
 
-/// The place of the first section in which a name is unknown.
+/// The smallest place of a section in which a name is unknown.
 pub(crate) fn first_unknown(alloc: Global, view: &View<'_>) -> Result<Option<u32>, AllocError>
     requires { IsView view.now }
     ensures { IfOk result (IsLeastOrNone (IsPlaceOf view.now.parts.now view.now.own (known.IsUnknown view.now.parts.now view.now.own))) }
 {
+    let mut first = None;
     for section in view.sections() {
         if !knows_content(alloc, view, &section.content)? {
-            return Ok(Some(section.place));
+            first = least(first, section.place);
         }
     }
-    Ok(None)
+    Ok(first)
 }

@@ -2,6 +2,7 @@
 
 use crate::content::Content;
 use crate::table::Space;
+use crate::twice::least;
 use crate::types::held;
 use crate::view::View;
 use std::alloc::{AllocError, Global};
@@ -184,13 +185,14 @@ impl<'a> Sizes<'a> {
         }
     }
 
-    /// The place of the first section whose type is too large.
+    /// The smallest place of a section whose type is too large.
     pub(crate) fn first_large(&self, view: &View<'_>) -> Option<u32> {
+        let mut first = None;
         for section in view.sections() {
             if self.is_large_content(view, &section.content) {
-                return Some(section.place);
+                first = least(first, section.place);
             }
         }
-        None
+        first
     }
 }

@@ -43,9 +43,17 @@ fn readings(rt: HostRuntime) -> Result<(), Fail> {
         // a comment that is not closed
         (b"unit u\nuses\nI /* J\nend\n", 14, 1),
         // the first fault
-        (b"unit u\nstruct s\nstruct s { struct t a ; + } ;\nend\nuses\n7\nend\n", 40, 1),
+        (
+            b"unit u\nstruct s\nstruct s { struct t a ; + } ;\nend\nuses\n7\nend\n",
+            40,
+            1,
+        ),
         // a fault goes before an unknown name
-        (b"unit u\nstruct s\nstruct s { struct t a ; } ;\nend\nuses\n7\nend\n", 53, 1),
+        (
+            b"unit u\nstruct s\nstruct s { struct t a ; } ;\nend\nuses\n7\nend\n",
+            53,
+            1,
+        ),
         // a place is in the head part
         (b"unit u\nfn f\nx\nend\nuses\n7\nend\n", 12, 1),
     ];
@@ -60,37 +68,89 @@ fn readings(rt: HostRuntime) -> Result<(), Fail> {
 fn names(rt: HostRuntime) -> Result<(), Fail> {
     let cases: [(&[u8], u32, u8); 16] = [
         // struct in a struct
-        (b"unit u\nstruct s\nstruct s { struct t a ; } ;\nend\n", 7, 2),
+        (
+            b"unit u\nstruct s\nstruct s { struct t a ; } ;\nend\n",
+            7,
+            2,
+        ),
         // pointer to a struct
-        (b"unit u\nstruct s\nstruct s { struct t * a ; } ;\nend\n", 0, 0),
+        (
+            b"unit u\nstruct s\nstruct s { struct t * a ; } ;\nend\n",
+            0,
+            0,
+        ),
         // array of structs
         (b"unit u\nglobal g\nstruct t g [ 3 ] ;\nend\n", 7, 2),
         // struct in scope
-        (b"unit u\nuses\nI\nend\nglobal g\nstruct s g ;\nend\n\x00interface I\nstruct s\nstruct s { int a ; } ;\nend\n", 0, 0),
+        (
+            b"unit u\nuses\nI\nend\nglobal g\nstruct s g ;\nend\n\x00interface I\nstruct s\nstruct s { int a ; } ;\nend\n",
+            0,
+            0,
+        ),
         // struct in scope far
-        (b"unit u\nuses\nI\nend\nglobal g\nstruct s g ;\nend\n\x00interface I\nuses\nJ\nend\n\x00interface J\nstruct s\nstruct s { int a ; } ;\nend\n", 0, 0),
+        (
+            b"unit u\nuses\nI\nend\nglobal g\nstruct s g ;\nend\n\x00interface I\nuses\nJ\nend\n\x00interface J\nstruct s\nstruct s { int a ; } ;\nend\n",
+            0,
+            0,
+        ),
         // struct of a part that is not reached
-        (b"unit u\nglobal g\nstruct s g ;\nend\n\x00interface I\nstruct s\nstruct s { int a ; } ;\nend\n", 7, 2),
+        (
+            b"unit u\nglobal g\nstruct s g ;\nend\n\x00interface I\nstruct s\nstruct s { int a ; } ;\nend\n",
+            7,
+            2,
+        ),
         // interface without its uses
-        (b"unit u\nuses\nI , J\nend\n\x00interface I\nstruct t\nstruct t { struct s a ; } ;\nend\n\x00interface J\nstruct s\nstruct s { int a ; } ;\nend\n", 12, 2),
+        (
+            b"unit u\nuses\nI , J\nend\n\x00interface I\nstruct t\nstruct t { struct s a ; } ;\nend\n\x00interface J\nstruct s\nstruct s { int a ; } ;\nend\n",
+            12,
+            2,
+        ),
         // interfaces in a circle
-        (b"unit u\nuses\nI\nend\n\x00interface I\nuses\nJ\nend\nstruct t\nstruct t { struct s a ; } ;\nend\n\x00interface J\nuses\nI\nend\nstruct s\nstruct s { struct t * a ; } ;\nend\n", 0, 0),
+        (
+            b"unit u\nuses\nI\nend\n\x00interface I\nuses\nJ\nend\nstruct t\nstruct t { struct s a ; } ;\nend\n\x00interface J\nuses\nI\nend\nstruct s\nstruct s { struct t * a ; } ;\nend\n",
+            0,
+            0,
+        ),
         // address of an unknown global
         (b"unit u\nglobal p\nvoid * p = & g ;\nend\n", 7, 2),
         // no text of a name
         (b"unit u\nuses\nI\nend\n", 0, 0),
         // field twice
-        (b"interface I\nstruct s\nstruct s { int a ; int a ; } ;\nend\n", 12, 3),
+        (
+            b"interface I\nstruct s\nstruct s { int a ; int a ; } ;\nend\n",
+            12,
+            3,
+        ),
         // an unknown name goes before a second declaration
-        (b"unit u\nstruct s\nstruct s { int a ; int a ; } ;\nend\nglobal g\nstruct t g ;\nend\n", 51, 2),
+        (
+            b"unit u\nstruct s\nstruct s { int a ; int a ; } ;\nend\nglobal g\nstruct t g ;\nend\n",
+            51,
+            2,
+        ),
         // struct here and there
-        (b"unit u\nuses\nI\nend\nstruct s\nstruct s { int a ; } ;\nend\n\x00interface I\nstruct s\nstruct s { int a ; } ;\nend\n", 18, 3),
+        (
+            b"unit u\nuses\nI\nend\nstruct s\nstruct s { int a ; } ;\nend\n\x00interface I\nstruct s\nstruct s { int a ; } ;\nend\n",
+            18,
+            3,
+        ),
         // struct in two interfaces
-        (b"unit u\nuses\nI , J\nend\n\x00interface I\nstruct s\nstruct s { int a ; } ;\nend\n\x00interface J\nstruct s\nstruct s { int a ; } ;\nend\n", 0, 3),
+        (
+            b"unit u\nuses\nI , J\nend\n\x00interface I\nstruct s\nstruct s { int a ; } ;\nend\n\x00interface J\nstruct s\nstruct s { int a ; } ;\nend\n",
+            0,
+            3,
+        ),
         // struct here and in two interfaces
-        (b"unit u\nuses\nI , J\nend\nstruct s\nstruct s { int a ; } ;\nend\n\x00interface I\nstruct s\nstruct s { int a ; } ;\nend\n\x00interface J\nstruct s\nstruct s { int a ; } ;\nend\n", 22, 3),
+        (
+            b"unit u\nuses\nI , J\nend\nstruct s\nstruct s { int a ; } ;\nend\n\x00interface I\nstruct s\nstruct s { int a ; } ;\nend\n\x00interface J\nstruct s\nstruct s { int a ; } ;\nend\n",
+            22,
+            3,
+        ),
         // name spaces
-        (b"unit u\nstruct s\nstruct s { int s ; } ;\nend\nglobal s\nint s ;\nend\n", 0, 0),
+        (
+            b"unit u\nstruct s\nstruct s { int s ; } ;\nend\nglobal s\nint s ;\nend\n",
+            0,
+            0,
+        ),
     ];
     for (texts, place, condition) in cases {
         assert_eq!(rt; failing(rt.alloc(), texts)?, (place, condition));
@@ -107,45 +167,113 @@ fn types(rt: HostRuntime) -> Result<(), Fail> {
         // void array
         (b"unit u\nglobal g\nvoid g [ 2 ] ;\nend\n", 7, 4),
         // too many values
-        (b"unit u\nglobal g\nint g [ 2 ] = { 1 , 2 , 3 } ;\nend\n", 7, 4),
+        (
+            b"unit u\nglobal g\nint g [ 2 ] = { 1 , 2 , 3 } ;\nend\n",
+            7,
+            4,
+        ),
         // number in a pointer
         (b"unit u\nglobal g\nint * g = 1 ;\nend\n", 7, 4),
         // zeros
-        (b"unit u\nglobal g\nint * g = 0 ;\nend\nglobal l\nlock l = 0 ;\nend\n", 0, 0),
+        (
+            b"unit u\nglobal g\nint * g = 0 ;\nend\nglobal l\nlock l = 0 ;\nend\n",
+            0,
+            0,
+        ),
         // number in a lock
         (b"unit u\nglobal l\nlock l = 1 ;\nend\n", 7, 4),
         // address in an integer
         (b"unit u\nglobal g\nint g = & g ;\nend\n", 7, 4),
         // addresses
-        (b"unit u\nglobal g\nint g [ 3 ] ;\nend\nglobal p\nint * p = & g ;\nend\nglobal q\nvoid * q = & p ;\nend\nglobal v\nvoid * * v = & q ;\nend\n", 0, 0),
+        (
+            b"unit u\nglobal g\nint g [ 3 ] ;\nend\nglobal p\nint * p = & g ;\nend\nglobal q\nvoid * q = & p ;\nend\nglobal v\nvoid * * v = & q ;\nend\n",
+            0,
+            0,
+        ),
         // address of another type
-        (b"unit u\nglobal g\nunsigned g ;\nend\nglobal p\nint * p = & g ;\nend\n", 33, 4),
+        (
+            b"unit u\nglobal g\nunsigned g ;\nend\nglobal p\nint * p = & g ;\nend\n",
+            33,
+            4,
+        ),
         // values in a struct
-        (b"unit u\nstruct s\nstruct s { int a ; int * b [ 2 ] ; } ;\nend\nglobal h\nint h ;\nend\nglobal g\nstruct s g = { 1 , 0 , & h } ;\nend\n", 0, 0),
+        (
+            b"unit u\nstruct s\nstruct s { int a ; int * b [ 2 ] ; } ;\nend\nglobal h\nint h ;\nend\nglobal g\nstruct s g = { 1 , 0 , & h } ;\nend\n",
+            0,
+            0,
+        ),
         // value in a struct
-        (b"unit u\nstruct s\nstruct s { int a ; int * b [ 2 ] ; } ;\nend\nglobal g\nstruct s g = { 1 , 2 } ;\nend\n", 59, 4),
+        (
+            b"unit u\nstruct s\nstruct s { int a ; int * b [ 2 ] ; } ;\nend\nglobal g\nstruct s g = { 1 , 2 } ;\nend\n",
+            59,
+            4,
+        ),
         // empty structs
-        (b"unit u\nstruct e\nstruct e {  } ;\nend\nstruct s\nstruct s { struct e a [ 65536 ] ; int b ; } ;\nend\nglobal g\nstruct s g [ 2 ] = { 1 , 2 } ;\nend\nglobal h\nstruct e h = 1 ;\nend\n", 139, 4),
+        (
+            b"unit u\nstruct e\nstruct e {  } ;\nend\nstruct s\nstruct s { struct e a [ 65536 ] ; int b ; } ;\nend\nglobal g\nstruct s g [ 2 ] = { 1 , 2 } ;\nend\nglobal h\nstruct e h = 1 ;\nend\n",
+            139,
+            4,
+        ),
         // void goes before too large
-        (b"unit u\nstruct s\nstruct s { struct s a ; } ;\nend\nstruct t\nstruct t { void a ; } ;\nend\n", 48, 4),
+        (
+            b"unit u\nstruct s\nstruct s { struct s a ; } ;\nend\nstruct t\nstruct t { void a ; } ;\nend\n",
+            48,
+            4,
+        ),
         // struct in itself
-        (b"interface I\nstruct s\nstruct s { struct s a ; } ;\nend\n", 12, 5),
+        (
+            b"interface I\nstruct s\nstruct s { struct s a ; } ;\nend\n",
+            12,
+            5,
+        ),
         // structs in one another
-        (b"interface I\nstruct s\nstruct s { struct t a [ 2 ] ; } ;\nend\nstruct t\nstruct t { struct s a ; } ;\nend\n", 12, 5),
+        (
+            b"interface I\nstruct s\nstruct s { struct t a [ 2 ] ; } ;\nend\nstruct t\nstruct t { struct s a ; } ;\nend\n",
+            12,
+            5,
+        ),
         // struct in itself, elsewhere
-        (b"unit u\nuses\nI\nend\nstruct t\nstruct t { struct s a ; } ;\nend\n\x00interface I\nstruct s\nstruct s { struct s a ; } ;\nend\n", 18, 5),
+        (
+            b"unit u\nuses\nI\nend\nstruct t\nstruct t { struct s a ; } ;\nend\n\x00interface I\nstruct s\nstruct s { struct s a ; } ;\nend\n",
+            18,
+            5,
+        ),
         // largest struct
-        (b"unit u\nstruct s\nstruct s { int a0 [ 65536 ] ; int a1 [ 65536 ] ; int a2 [ 65536 ] ; int a3 [ 65536 ] ; int a4 [ 65536 ] ; int a5 [ 65536 ] ; int a6 [ 65536 ] ; int a7 [ 65536 ] ; int a8 [ 65536 ] ; int a9 [ 65536 ] ; int a10 [ 65536 ] ; int a11 [ 65536 ] ; int a12 [ 65536 ] ; int a13 [ 65536 ] ; int a14 [ 65536 ] ; int a15 [ 65536 ] ; } ;\nend\nglobal g\nstruct s g ;\nend\n", 0, 0),
+        (
+            b"unit u\nstruct s\nstruct s { int a0 [ 65536 ] ; int a1 [ 65536 ] ; int a2 [ 65536 ] ; int a3 [ 65536 ] ; int a4 [ 65536 ] ; int a5 [ 65536 ] ; int a6 [ 65536 ] ; int a7 [ 65536 ] ; int a8 [ 65536 ] ; int a9 [ 65536 ] ; int a10 [ 65536 ] ; int a11 [ 65536 ] ; int a12 [ 65536 ] ; int a13 [ 65536 ] ; int a14 [ 65536 ] ; int a15 [ 65536 ] ; } ;\nend\nglobal g\nstruct s g ;\nend\n",
+            0,
+            0,
+        ),
         // one cell more
-        (b"unit u\nstruct s\nstruct s { int a0 [ 65536 ] ; int a1 [ 65536 ] ; int a2 [ 65536 ] ; int a3 [ 65536 ] ; int a4 [ 65536 ] ; int a5 [ 65536 ] ; int a6 [ 65536 ] ; int a7 [ 65536 ] ; int a8 [ 65536 ] ; int a9 [ 65536 ] ; int a10 [ 65536 ] ; int a11 [ 65536 ] ; int a12 [ 65536 ] ; int a13 [ 65536 ] ; int a14 [ 65536 ] ; int a15 [ 65536 ] ; } ;\nend\nglobal g\nstruct s g [ 2 ] ;\nend\n", 345, 5),
+        (
+            b"unit u\nstruct s\nstruct s { int a0 [ 65536 ] ; int a1 [ 65536 ] ; int a2 [ 65536 ] ; int a3 [ 65536 ] ; int a4 [ 65536 ] ; int a5 [ 65536 ] ; int a6 [ 65536 ] ; int a7 [ 65536 ] ; int a8 [ 65536 ] ; int a9 [ 65536 ] ; int a10 [ 65536 ] ; int a11 [ 65536 ] ; int a12 [ 65536 ] ; int a13 [ 65536 ] ; int a14 [ 65536 ] ; int a15 [ 65536 ] ; } ;\nend\nglobal g\nstruct s g [ 2 ] ;\nend\n",
+            345,
+            5,
+        ),
         // pointer to the struct itself
-        (b"unit u\nstruct s\nstruct s { struct s * a ; } ;\nend\n", 0, 0),
+        (
+            b"unit u\nstruct s\nstruct s { struct s * a ; } ;\nend\n",
+            0,
+            0,
+        ),
         // fault in the second part
-        (b"unit u\nuses\nI\nend\n\x00interface I\nstruct s\nstruct s { void a ; } ;\nend\n", 12, 4),
+        (
+            b"unit u\nuses\nI\nend\n\x00interface I\nstruct s\nstruct s { void a ; } ;\nend\n",
+            12,
+            4,
+        ),
         // a header looks at its own part
-        (b"unit u\nuses\nI\nend\n\x00interface I\nstruct s\nstruct s { void a ; } ;\nend\n\x00", 0, 0),
+        (
+            b"unit u\nuses\nI\nend\n\x00interface I\nstruct s\nstruct s { void a ; } ;\nend\n\x00",
+            0,
+            0,
+        ),
         // a header with a fault
-        (b"unit u\nstruct s\nstruct s { void a ; } ;\nend\n\x00", 7, 4),
+        (
+            b"unit u\nstruct s\nstruct s { void a ; } ;\nend\n\x00",
+            7,
+            4,
+        ),
         // function without a specification
         (b"unit u\n\x00fn f\n", 0, 6),
         // proof without a function

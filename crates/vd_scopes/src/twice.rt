@@ -69,7 +69,7 @@ fn last_place(view: &View<'_>, spots: &[Spot]) -> u32 {
     place
 }
 
-/// The first place of a name of a name space that is declared twice.
+/// The smallest place of a name of a name space that is declared twice.
 fn first_twofold(view: &View<'_>, space: Space) -> Option<u32> {
     let mut first = None;
     for name in view.table.in_space(space).shared() {
@@ -108,7 +108,7 @@ fn repeats(alloc: Global, content: &Content) -> Result<bool, AllocError>
     }
 }
 
-/// The first place at which a name is declared twice.
+/// The smallest place at which a name is declared twice.
 pub(crate) fn first_twice(alloc: Global, view: &View<'_>) -> Result<Option<u32>, AllocError>
     requires { IsView view.now }
     ensures { IfOk result (IsLeastOrNone (twice.FailsTwice view.now.parts.now view.now.own)) }

@@ -15,7 +15,7 @@ use crate::known::first_unknown;
 use crate::scope::{Scopes, scopes_of};
 use crate::size::Sizes;
 use crate::table::Table;
-use crate::twice::first_twice;
+use crate::twice::{first_twice, least};
 use crate::view::View;
 use std::alloc::{AllocError, Global};
 use thiserror::Error;
@@ -43,14 +43,15 @@ impl From<AllocError> for HeadFault {
     }
 }
 
-/// The place of the first fault in a section that is not read.
+/// The smallest place of a fault in a section that is not read.
 fn first_unread(view: &View<'_>) -> Option<u32> {
+    let mut first = None;
     for section in view.sections() {
         if let Content::Unread(place) = &section.content {
-            return Some(*place);
+            first = least(first, *place);
         }
     }
-    None
+    first
 }
 
 /// The first of the conditions 1 to 5 that fails of a part, and where.

@@ -2,7 +2,7 @@
 
 use crate::closure::{closure_of, exports_of};
 use crate::content::{Content, HeadSection, Part};
-use crate::table::{Spot, Space, Table};
+use crate::table::{Space, Spot, Table};
 use std::alloc::{AllocError, Global};
 use vd_base::Name;
 
