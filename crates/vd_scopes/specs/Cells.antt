@@ -1,5 +1,5 @@
 -- The cells of a type, by what a part sees; and condition 5: a type is too large.
-use Rattle.std.specs.Prelude.{◌≤◌, ℕ, List, [], ◌∷◌, ◌++◌, length}
+use Rattle.std.specs.Prelude.{◌≡◌, ◌≤◌, ◌+◌, ℕ, min, List, [], ◌∷◌, ◌++◌, length, Option, None, Some}
 use Rattle.std.specs.List.{repeat}
 use Rattle.vd_base.specs.declared.ctype.CType.{CType}
 use Rattle.vd_base.specs.declared.ctype.CType.TheVariants as typ
@@ -28,6 +28,11 @@ module _ (parts : List Part) (own : ℕ) where
     pub data HaveCells : List Field → List CType → Type 0 where
       no_field : HaveCells [] []
       field_then : {f : Field} {fs : List Field} {ts us : List CType} → HasCells f.typ ts → HaveCells fs us → HaveCells (f ∷ fs) (ts ++ us)
+
+  -- Cells by their number, at most one more than a type may have; none where there are no such cells.
+  abbrev pub CountsAs : (List CType → Type 0) → Option ℕ → Type 0
+  CountsAs H None = (ts : List CType) → H ts → ⊥
+  CountsAs H (Some n) = (ts : List CType) × H ts × (n ≡ min (length ts) (most_cells + 1))
 
   -- A type is too large: it has more cells than a type may have, or holds itself by value.
   abbrev pub IsTooLarge : CType → Type 0

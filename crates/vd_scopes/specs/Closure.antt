@@ -92,3 +92,12 @@ module _ (parts : List Part) where
   Means own s name c =
       ((i : ℕ) × IsDeclared parts s name own i c × IsFirstOwn own s name i)
       ⊎ (((i : ℕ) (d : Content) → IsDeclared parts s name own i d → ⊥) × ((k i : ℕ) × Sees own s name k i c))
+
+  -- A name means one thing at most to a part.
+  abbrev pub IsUnambiguous : ℕ → Type 0
+  IsUnambiguous own = (s : Space) (name : Bytes) (c d : Content) → Means own s name c → Means own s name d → c ≡ d
+
+-- What a name means is what an option says, or nothing.
+abbrev pub MeansOption : List Part → ℕ → Space → Bytes → Option Content → Type 0
+MeansOption parts own s name None = (c : Content) → Means parts own s name c → ⊥
+MeansOption parts own s name (Some c) = Means parts own s name c

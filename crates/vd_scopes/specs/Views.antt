@@ -1,18 +1,30 @@
 -- What the code keeps of parts, and of what one of them sees.
 use Rattle.std.specs.Prelude.{◌≡◌, ◌≤◌, ◌<◌, ◌↔◌, ℕ, suc, Bool, true, false, cond, List, [], ◌∷◌, ◌++◌, length, Option, None, Some, slice_get, option_map, unwrap_or}
 use Rattle.std.specs.BTreeMap.{get_by}
+use Rattle.std.specs.BTreeSet.{contains_by}
 use Rattle.std.specs.Cmp.Lexicographic.{slice_cmp}
+use Rattle.std.specs.List.{Contains}
 use Rattle.std.specs.Ordering.{nat_cmp}
+use Rattle.vd_base.specs.declared.ctype.CType.{CType}
+use Rattle.vd_base.specs.declared.ctype.CType.TheVariants as typ
+use Rattle.vd_scopes.specs.declared.content.Content.{Content}
+use Rattle.vd_scopes.specs.declared.content.Content.TheVariants as content
 use Rattle.vd_scopes.specs.declared.content.HeadSection.{HeadSection}
 use Rattle.vd_scopes.specs.declared.content.Part.{Part}
+use Rattle.vd_scopes.specs.declared.completeness.Bodies.{Bodies}
+use Rattle.vd_scopes.specs.declared.size.Sizes.{Sizes}
 use Rattle.vd_scopes.specs.declared.table.Declarations.{Declarations}
 use Rattle.vd_scopes.specs.declared.table.Space.{Space}
 use Rattle.vd_scopes.specs.declared.table.Space.TheVariants as space
 use Rattle.vd_scopes.specs.declared.table.Spot.{Spot}
 use Rattle.vd_scopes.specs.declared.table.Table.{Table}
 use Rattle.vd_scopes.specs.declared.view.View.{View}
-use Rattle.vd_scopes.specs.Closure.{Reaches, Exports, interface_at}
-use Rattle.vd_scopes.specs.Declaration.{Bytes, declares}
+use Rattle.vd_outline.specs.declared.section.SectionKind.TheVariants as section
+use Rattle.vd_scopes.specs.Cells.{HasCells, CountsAs}
+use Rattle.vd_scopes.specs.Closure.{Reaches, Exports, Knows, interface_at}
+use Rattle.vd_scopes.specs.Completeness.{Stands}
+use Rattle.vd_scopes.specs.Known.{held}
+use Rattle.vd_scopes.specs.Declaration.{Bytes, IsSection, declares}
 
 -- ---- where a name is declared
 
@@ -62,3 +74,28 @@ pub record IsView (view : View) : Type 0 where
   pub table : IsTable view.parts.now view.table.now
   pub closure : (k : ℕ) → (is_marked view.closure.items k ≡ true) ↔ ((k < length view.parts.now) × Reaches view.parts.now view.own k)
   pub exported : (n : ℕ) → (is_marked view.exported.items n ≡ true) ↔ Exports view.parts.now view.own n
+
+-- ---- sizes
+
+-- the types of what a section declares
+abbrev pub types_in : Content → List CType
+types_in (content.Struct name fields) = typ.Struct name ∷ []
+types_in (content.Global g values) = g.typ ∷ []
+types_in _ = []
+
+abbrev pub cells_kept : Sizes → Bytes → Option (Option ℕ)
+cells_kept sizes name = get_by (λ k. slice_cmp nat_cmp name k.now) sizes.cells
+
+-- The cells of all structs that the part's own declarations hold by value.
+pub record AreSizes (view : View) (sizes : Sizes) : Type 0 where
+  pub counted : (name : Bytes) (n : Option ℕ) → cells_kept sizes name ≡ Some n → CountsAs view.parts.now view.own (HasCells view.parts.now view.own (typ.Struct name)) n
+  pub all : (number : ℕ) (h : HeadSection) (t : CType) (name : Bytes) → IsSection view.parts.now view.own number h → Contains (types_in h.content) t → held t ≡ Some name
+      → Knows view.parts.now view.own space.Struct name → cells_kept sizes name ≡ None → ⊥
+
+-- ---- header lines
+
+-- The names in header lines by their kinds.
+pub record AreBodies (lines : Bytes) (b : Bodies) : Type 0 where
+  pub functions : (f : Bytes) → (contains_by (λ k. slice_cmp nat_cmp f k.now) b.functions ≡ true) ↔ Stands lines section.Fn f
+  pub scripts : (f : Bytes) → (contains_by (λ k. slice_cmp nat_cmp f k.now) b.scripts ≡ true) ↔ Stands lines section.Script f
+  pub subs : (f : Bytes) → (contains_by (λ k. slice_cmp nat_cmp f k.now) b.subs ≡ true) ↔ Stands lines section.Sub f

@@ -1,5 +1,14 @@
 //! Sorts and types that disagree.
 
+ghost use Rattle.std.specs.Prelude.{◌≡◌, ◌↔◌, option_copied, true, IfOk, IsTrue, MatchOption};
+ghost use Rattle.std.specs.List.{list_all};
+ghost use Rattle.vd_logic.specs.declared.term.Sort.TheVariants as sort;
+ghost use Rattle.vd_scopes.specs.Agreement as agreement;
+ghost use Rattle.vd_scopes.specs.Closure.{IsUnambiguous};
+ghost use Rattle.vd_scopes.specs.Failing.{IsLeastOrNone, IsPlaceOf};
+ghost use Rattle.vd_scopes.specs.Sorts as sorts;
+ghost use Rattle.vd_scopes.specs.Views.{AreSizes, IsView};
+
 use crate::content::Content;
 use crate::initial::values_fit;
 use crate::size::Sizes;
@@ -12,7 +21,9 @@ use std::alloc::{AllocError, Global};
 use vd_base::{Name, are_fields};
 use vd_logic::{Assertion, Item, Label, PredDef, Prop, Rel, Sort, Spec, Term};
 
-fn prop_agrees(prop: &Prop) -> bool {
+fn prop_agrees(prop: &Prop) -> bool
+    ensures { result ≡ agreement.prop_agrees prop.now }
+{
     match prop {
         Prop::Rel(Rel::Eq, a, b) | Prop::Rel(Rel::Ne, a, b) => are_alike(a, b),
         Prop::Rel(Rel::Le, a, b) | Prop::Rel(Rel::Lt, a, b) => {
@@ -26,7 +37,9 @@ fn prop_agrees(prop: &Prop) -> bool {
 }
 
 /// The sorts of a predicate's arguments.
-fn arguments(content: &Content) -> Option<&[Sort]> {
+fn arguments(content: &Content) -> Option<&[Sort]>
+    ensures { option_copied result ≡ agreement.argument_sorts content.now }
+{
     match content {
         Content::Abstract(_, sorts, _) => Some(sorts.as_slice()),
         Content::Pred(pred, _) => Some(pred.args.as_slice()),
@@ -59,7 +72,9 @@ fn item_agrees(view: &View<'_>, item: &Item) -> bool {
     }
 }
 
-fn props_agree(props: &[Prop]) -> bool {
+fn props_agree(props: &[Prop]) -> bool
+    ensures { result ≡ list_all agreement.prop_agrees props.now }
+{
     for prop in props {
         if !prop_agrees(prop) {
             return false;
@@ -68,7 +83,9 @@ fn props_agree(props: &[Prop]) -> bool {
     true
 }
 
-fn locals_agree(locals: &[(Name, Term)]) -> bool {
+fn locals_agree(locals: &[(Name, Term)]) -> bool
+    ensures { result ≡ list_all (λ x. sorts.is_of sort.Val x.1) locals.now }
+{
     for local in locals {
         if !is_of(&local.1, Sort::Val) {
             return false;
@@ -86,13 +103,19 @@ fn items_agree(view: &View<'_>, items: &[Item]) -> bool {
     true
 }
 
-fn assertion_agrees(view: &View<'_>, a: &Assertion) -> bool {
+fn assertion_agrees(view: &View<'_>, a: &Assertion) -> bool
+    requires view { IsView view.now }
+    requires one { IsUnambiguous view.now.parts.now view.now.own }
+    ensures { IsTrue result ↔ (agreement.Disagrees view.now.parts.now view.now.own a.now → ⊥) }
+{
     props_agree(a.props.as_slice())
         && locals_agree(a.locals.as_slice())
         && items_agree(view, a.items.as_slice())
 }
 
-fn same_sorts(a: &[Sort], b: &[Sort]) -> bool {
+fn same_sorts(a: &[Sort], b: &[Sort]) -> bool
+    ensures { IsTrue result ↔ (a.now ≡ b.now) }
+{
     a == b
 }
 
@@ -157,7 +180,12 @@ pub(crate) fn first_disagreement(
     alloc: Global,
     view: &View<'_>,
     sizes: &Sizes<'_>,
-) -> Result<Option<u32>, AllocError> {
+) -> Result<Option<u32>, AllocError>
+    requires view { IsView view.now }
+    requires one { IsUnambiguous view.now.parts.now view.now.own }
+    requires sizes { AreSizes view.now sizes.now }
+    ensures { IfOk result (IsLeastOrNone (IsPlaceOf view.now.parts.now view.now.own (agreement.IsDisagreement view.now.parts.now view.now.own))) }
+{
     let mut first = None;
     for section in view.sections() {
         if !content_agrees(alloc, view, sizes, &section.content)? {

@@ -1,11 +1,18 @@
 //! The closure of a part: itself, and the interfaces that what is in it exports or uses.
 
+ghost use Rattle.std.specs.Prelude.{◌≡◌, ◌<◌, ◌↔◌, ℕ, [], ◌∷◌, true, false, length, IfOk};
+ghost use Rattle.std.specs.List.{repeat};
+ghost use Rattle.vd_scopes.specs.Closure.{Reaches, Exports};
+ghost use Rattle.vd_scopes.specs.Views.{IsTable, is_marked};
+
 use crate::content::{Content, Mention, Part};
 use crate::table::Table;
 use std::alloc::{AllocError, Global};
 
 /// For each part whether it is in a set.
-pub(crate) fn no_parts(alloc: Global, count: usize) -> Result<Vec<bool>, AllocError> {
+pub(crate) fn no_parts(alloc: Global, count: usize) -> Result<Vec<bool>, AllocError>
+    ensures { IfOk result (λ marks. marks.items ≡ repeat count (false ∷ [])) }
+{
     let mut marks = Vec::new(alloc);
     for _ in 0..count {
         marks.push(false)?;
@@ -54,7 +61,10 @@ pub(crate) fn closure_of(
     parts: &[Part],
     table: &Table<'_>,
     from: usize,
-) -> Result<Vec<bool>, AllocError> {
+) -> Result<Vec<bool>, AllocError>
+    requires { IsTable parts.now table.now }
+    ensures { IfOk result (λ marks. (k : ℕ) → (is_marked marks.items k ≡ true) ↔ ((k < length parts.now) × Reaches parts.now from k)) }
+{
     let mut marks = no_parts(alloc, parts.len())?;
     let mut open = Vec::new(alloc);
     if from < marks.len() {
@@ -75,7 +85,10 @@ pub(crate) fn exports_of(
     parts: &[Part],
     table: &Table<'_>,
     of: usize,
-) -> Result<Vec<bool>, AllocError> {
+) -> Result<Vec<bool>, AllocError>
+    requires { IsTable parts.now table.now }
+    ensures { IfOk result (λ marks. (n : ℕ) → (is_marked marks.items n ≡ true) ↔ Exports parts.now of n) }
+{
     let mut marks = no_parts(alloc, parts.len())?;
     let mut fresh = Vec::new(alloc);
     let Some(part) = parts.get(of) else {

@@ -1,5 +1,11 @@
 //! What a unit lacks.
 
+ghost use Rattle.std.specs.Prelude.{◌≡◌, ◌↔◌, IfOk, IsTrue};
+ghost use Rattle.vd_scopes.specs.Completeness as complete;
+ghost use Rattle.vd_scopes.specs.Declaration.{Bytes};
+ghost use Rattle.vd_scopes.specs.Failing.{IsLeastOrNone};
+ghost use Rattle.vd_scopes.specs.Views.{AreBodies, IsView};
+
 use crate::content::{Content, Mention};
 use crate::table::Space;
 use crate::twice::least;
@@ -46,7 +52,9 @@ impl<'a> Bodies<'a> {
     }
 
     /// Those of a text of header lines.
-    pub(crate) fn of(alloc: Global, lines: &'a Text) -> Result<Bodies<'a>, AllocError> {
+    pub(crate) fn of(alloc: Global, lines: &'a Text) -> Result<Bodies<'a>, AllocError>
+        ensures { IfOk result (AreBodies lines.now) }
+    {
         let mut bodies = Bodies {
             functions: BTreeSet::new(alloc),
             scripts: BTreeSet::new(alloc),
@@ -93,7 +101,10 @@ fn has_exported_spec(view: &View<'_>, name: &[u8]) -> bool {
 
 /// Whether a function without a specification, a proof without its function, or a subsumption that nothing asks for
 /// stands in the unit.
-fn has_stray(view: &View<'_>, bodies: &Bodies<'_>) -> bool {
+fn has_stray(view: &View<'_>, bodies: &Bodies<'_>) -> bool
+    requires { IsView view.now }
+    ensures { (lines : Bytes) → AreBodies lines bodies.now → IsTrue result ↔ complete.IsStray lines view.now.parts.now view.now.own }
+{
     for name in bodies.functions.iter() {
         if !has_own_spec(view, name) && !has_exported_spec(view, name) {
             return true;
@@ -156,7 +167,10 @@ fn is_served(view: &View<'_>, bodies: &Bodies<'_>, name: &[u8]) -> bool {
 }
 
 /// The smallest place at which a unit lacks what is asked of it.
-pub(crate) fn first_lack(view: &View<'_>, bodies: &Bodies<'_>) -> Option<u32> {
+pub(crate) fn first_lack(view: &View<'_>, bodies: &Bodies<'_>) -> Option<u32>
+    requires { IsView view.now }
+    ensures { (lines : Bytes) → AreBodies lines bodies.now → IsLeastOrNone (complete.FailsComplete lines view.now.parts.now view.now.own) result }
+{
     if !view.is_unit() {
         return None;
     }

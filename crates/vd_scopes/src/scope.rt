@@ -1,5 +1,9 @@
 //! The scopes that head parts give.
 
+ghost use Rattle.std.specs.Prelude.{◌≡◌, [], IfOk, OnOk};
+ghost use Rattle.vd_scopes.specs.Scope.{AreScopes, HasStructs};
+ghost use Rattle.vd_scopes.specs.Views.{IsView};
+
 use crate::content::{Content, HeadSection};
 use crate::size::{Known, Order};
 use crate::view::View;
@@ -16,19 +20,25 @@ pub struct Scopes {
     pub logic: LScope,
 }
 
-fn signature_of(alloc: Global, spec: &Spec) -> Result<Signature, AllocError> {
+fn signature_of(alloc: Global, spec: &Spec) -> Result<Signature, AllocError>
+    ensures { IfOk result (λ s. s ≡ record { ret = spec.now.ret; name = spec.now.name; params = spec.now.params }) }
+{
     let ret = spec.ret.copy(alloc)?;
     let name = spec.name.copy(alloc)?;
     let params = copy_fields(alloc, &spec.params)?;
     Ok(Signature { ret, name, params })
 }
 
-fn copy_global(alloc: Global, field: &Field) -> Result<(Name, CType), AllocError> {
+fn copy_global(alloc: Global, field: &Field) -> Result<(Name, CType), AllocError>
+    ensures { IfOk result (λ g. g ≡ (field.now.name, field.now.typ)) }
+{
     let name = field.name.copy(alloc)?;
     Ok((name, field.typ.copy(alloc)?))
 }
 
-fn copy_cases(alloc: Global, cases: &[Assertion]) -> Result<List<Assertion>, AllocError> {
+fn copy_cases(alloc: Global, cases: &[Assertion]) -> Result<List<Assertion>, AllocError>
+    ensures { IfOk result (λ copies. copies ≡ cases.now) }
+{
     let mut copies = List::new(alloc);
     for case in cases {
         copies.push(case.copy(alloc)?)?;
@@ -36,7 +46,9 @@ fn copy_cases(alloc: Global, cases: &[Assertion]) -> Result<List<Assertion>, All
     Ok(copies)
 }
 
-fn copy_pred(alloc: Global, pred: &PredDef) -> Result<PredDef, AllocError> {
+fn copy_pred(alloc: Global, pred: &PredDef) -> Result<PredDef, AllocError>
+    ensures { IfOk result (λ copy. copy ≡ pred.now) }
+{
     let name = pred.name.copy(alloc)?;
     let args = List::from_slice(alloc, pred.args.as_slice())?;
     let cases = copy_cases(alloc, pred.cases.as_slice())?;
@@ -44,7 +56,9 @@ fn copy_pred(alloc: Global, pred: &PredDef) -> Result<PredDef, AllocError> {
 }
 
 /// A predicate without a definition.
-fn abstract_pred(alloc: Global, name: &Name, sorts: &[Sort]) -> Result<PredDef, AllocError> {
+fn abstract_pred(alloc: Global, name: &Name, sorts: &[Sort]) -> Result<PredDef, AllocError>
+    ensures { IfOk result (λ p. p ≡ record { name = name.now; args = sorts.now; cases = [] }) }
+{
     let name = name.copy(alloc)?;
     let args = List::from_slice(alloc, sorts)?;
     Ok(PredDef {
@@ -93,7 +107,11 @@ fn put_struct(alloc: Global, structs: &mut Structs, known: Known<'_>) -> Result<
 }
 
 /// The structs that a part sees and that have a layout.
-fn structs_of(alloc: Global, view: &View<'_>) -> Result<Structs, AllocError> {
+fn structs_of(alloc: Global, view: &View<'_>) -> Result<Structs, AllocError>
+    requires view { IsView view.now }
+    requires own { view.now.own ≡ 0 }
+    ensures { IfOk result (HasStructs view.now.parts.now) }
+{
     let mut order = Order::new(alloc);
     for (number, part) in view.parts.iter().enumerate() {
         if view.sees(number) {
@@ -112,7 +130,11 @@ fn structs_of(alloc: Global, view: &View<'_>) -> Result<Structs, AllocError> {
 }
 
 /// The scopes of what a part sees.
-pub(crate) fn scopes_of(alloc: Global, view: &View<'_>) -> Result<Scopes, AllocError> {
+pub(crate) fn scopes_of(alloc: Global, view: &View<'_>) -> Result<Scopes, AllocError>
+    requires view { IsView view.now }
+    requires own { view.now.own ≡ 0 }
+    ensures { IfOk result (AreScopes view.now.parts.now) }
+{
     let structs = structs_of(alloc, view)?;
     let mut scopes = Scopes {
         c: CScope {
