@@ -14,7 +14,7 @@ pub(crate) const MOST_CELLS: u64 = 1048576;
 
 /// A struct that a part sees.
 #[derive(Clone, Copy)]
-pub(crate) struct Known<'a> {
+pub(crate) struct StructSeen<'a> {
     pub(crate) name: &'a Name,
     pub(crate) fields: &'a [Field],
 }
@@ -22,20 +22,20 @@ pub(crate) struct Known<'a> {
 /// A struct whose fields are visited, and how many have been.
 #[derive(Clone, Copy)]
 struct Open<'a> {
-    known: Known<'a>,
+    known: StructSeen<'a>,
     next: usize,
 }
 
 /// Structs in an order in which what a struct holds by value stands before it, unless the struct holds itself.
 #[derive(Drop)]
 pub(crate) struct Order<'a> {
-    pub(crate) structs: List<Known<'a>>,
+    pub(crate) structs: List<StructSeen<'a>>,
     met: BTreeSet<&'a [u8]>,
 }
 
-fn known<'a>(view: &View<'a>, name: &Name) -> Option<Known<'a>> {
+fn seen_struct<'a>(view: &View<'a>, name: &Name) -> Option<StructSeen<'a>> {
     match view.meaning(Space::Struct, name) {
-        Some(Content::Struct(name, fields)) => Some(Known {
+        Some(Content::Struct(name, fields)) => Some(StructSeen {
             name,
             fields: fields.as_slice(),
         }),
@@ -58,7 +58,7 @@ impl<'a> Order<'a> {
         name: &Name,
         open: &mut Vec<Open<'a>>,
     ) -> Result<(), AllocError> {
-        let Some(known) = known(view, name) else {
+        let Some(known) = seen_struct(view, name) else {
             return Ok(());
         };
         if self.met.insert(known.name.as_bytes())? {
