@@ -5,7 +5,7 @@ ghost use Rattle.vd_scopes.specs.Scope.{AreScopes, HasStructs};
 ghost use Rattle.vd_scopes.specs.Views.{IsView};
 
 use crate::content::{Content, HeadSection};
-use crate::size::{StructSeen, Order};
+use crate::size::{Order, StructSeen};
 use crate::view::View;
 use std::alloc::{AllocError, Global};
 use vd_base::{CType, Field, LayoutFault, List, Name, Structs, are_fields, copy_fields};
@@ -92,7 +92,11 @@ fn put_section(
 }
 
 /// Adds a struct that has a layout over those that are there.
-fn put_struct(alloc: Global, structs: &mut Structs, known: StructSeen<'_>) -> Result<(), AllocError> {
+fn put_struct(
+    alloc: Global,
+    structs: &mut Structs,
+    known: StructSeen<'_>,
+) -> Result<(), AllocError> {
     if !are_fields(known.fields) {
         return Ok(());
     }
