@@ -55,12 +55,21 @@ module _ (lines : Bytes) where
           → (HasOwn space.Predicate name → ⊥) → Asks n
       function : {f : Bytes} {i : ℕ} {c : Content} → IsDeclared parts space.Function f n i c → (Stands section.Fn f → ⊥) → Asks n
 
-    -- The condition fails of a unit at a place: 0, an exported interface's name, or the header line of a specification that lacks its function, or its subsumption where it is exported.
-    pub data FailsComplete : ℕ → Type 0 where
-      stray : IsUnit parts own → IsStray → FailsComplete 0
-      asked : {n i : ℕ} {h : HeadSection} {names : List Mention} {m : Mention} → IsUnit parts own → IsSection parts own i h → h.content ≡ content.Exports names → Contains names m
-          → interface_at parts m.name ≡ Some n → Asks n → FailsComplete m.place
-      unserved : {i : ℕ} {h : HeadSection} {f : Spec} {twice : Bool} → IsUnit parts own → IsSection parts own i h → h.content ≡ content.Spec f twice
-          → (Stands section.Fn f.name → ⊥) → FailsComplete h.place
-      unsubsumed : {i : ℕ} {h : HeadSection} {f : Spec} {twice : Bool} → IsUnit parts own → IsSection parts own i h → h.content ≡ content.Spec f twice
-          → IsExported f.name → (Stands section.Sub f.name → ⊥) → FailsComplete h.place
+    -- The unit's section of that number specifies this function.
+    pub record Specifies (h : HeadSection) (f : Spec) : Type 0 where
+      pub number : ℕ
+      pub twice : Bool
+      pub stands : IsSection parts own number h
+      pub says : h.content ≡ content.Spec f twice
+
+    -- The condition fails of a unit at a place: 0, the name of an exported interface, or the header line of a specification that lacks its function, or its subsumption where the function is exported.
+    pub data Lacks (place : ℕ) : Type 0 where
+      stray : IsStray → place ≡ 0 → Lacks place
+      asked : (n : ℕ) (number : ℕ) (h : HeadSection) (names : List Mention) (m : Mention) → IsSection parts own number h → h.content ≡ content.Exports names → Contains names m
+          → interface_at parts m.name ≡ Some n → Asks n → place ≡ m.place → Lacks place
+      unserved : (h : HeadSection) (f : Spec) → Specifies h f → (Stands section.Fn f.name → ⊥) → place ≡ h.place → Lacks place
+      unsubsumed : (h : HeadSection) (f : Spec) → Specifies h f → IsExported f.name → (Stands section.Sub f.name → ⊥) → place ≡ h.place → Lacks place
+
+    -- The part is that of a unit that lacks something.
+    abbrev pub FailsComplete : ℕ → Type 0
+    FailsComplete place = IsUnit parts own × Lacks place

@@ -11,32 +11,32 @@ use Rattle.vd_scopes.specs.Declaration.{Bytes, IsSection}
 use Rattle.vd_scopes.specs.Known.{IsUnknown}
 use Rattle.vd_scopes.specs.Twice.{FailsTwice}
 
--- A condition fails of the part of that number, at a place: of 2, 4 and 5 it is that of the header line of the section.
-pub data Fails (parts : List Part) (own : ℕ) : ℕ → ℕ → Type 0 where
-  unread : {i place : ℕ} {h : HeadSection} → IsSection parts own i h → h.content ≡ content.Unread place → Fails parts own 1 place
-  unknown : {i : ℕ} {h : HeadSection} → IsSection parts own i h → IsUnknown parts own h.content → Fails parts own 2 h.place
-  twice : {place : ℕ} → FailsTwice parts own place → Fails parts own 3 place
-  disagreement : {i : ℕ} {h : HeadSection} → IsSection parts own i h → IsDisagreement parts own h.content → Fails parts own 4 h.place
-  large : {i : ℕ} {h : HeadSection} → IsSection parts own i h → IsLarge parts own h.content → Fails parts own 5 h.place
-
--- A condition fails of the own text, the first part, which has these header lines beside its head part.
-pub data FailsOwn (parts : List Part) (lines : Bytes) : ℕ → ℕ → Type 0 where
-  of_part : {condition place : ℕ} → Fails parts 0 condition place → FailsOwn parts lines condition place
-  incomplete : {place : ℕ} → FailsComplete lines parts 0 place → FailsOwn parts lines 6 place
-
--- Of what fails this is the first: the lowest condition, and of that the smallest place.
-pub record IsFirst (F : ℕ → ℕ → Type 0) (condition place : ℕ) : Type 0 where
-  pub fails : F condition place
-  pub lowest : (other at : ℕ) → F other at → condition ≤ other
-  pub least : (at : ℕ) → F condition at → place ≤ at
-
--- The sections of the part of which something is so have this place among theirs.
+-- Something is so of what a section of the part says, and this is the place of its header line.
 pub record IsPlaceOf (parts : List Part) (own : ℕ) (P : Content → Type 0) (place : ℕ) : Type 0 where
   pub number : ℕ
   pub section : HeadSection
   pub stands : IsSection parts own number section
   pub holds : P section.content
   pub place_is : place ≡ section.place
+
+-- A condition fails of the part of that number, at a place: of 2, 4 and 5 it is that of the header line of a section.
+pub data Fails (parts : List Part) (own : ℕ) (condition place : ℕ) : Type 0 where
+  unread : (number : ℕ) (h : HeadSection) → IsSection parts own number h → h.content ≡ content.Unread place → condition ≡ 1 → Fails parts own condition place
+  unknown : IsPlaceOf parts own (IsUnknown parts own) place → condition ≡ 2 → Fails parts own condition place
+  twice : FailsTwice parts own place → condition ≡ 3 → Fails parts own condition place
+  disagreement : IsPlaceOf parts own (IsDisagreement parts own) place → condition ≡ 4 → Fails parts own condition place
+  large : IsPlaceOf parts own (IsLarge parts own) place → condition ≡ 5 → Fails parts own condition place
+
+-- A condition fails of the own text, the first part, which has these header lines beside its head part.
+pub data FailsOwn (parts : List Part) (lines : Bytes) (condition place : ℕ) : Type 0 where
+  of_part : Fails parts 0 condition place → FailsOwn parts lines condition place
+  incomplete : FailsComplete lines parts 0 place → condition ≡ 6 → FailsOwn parts lines condition place
+
+-- Of what fails this is the first: the lowest condition, and of that the smallest place.
+pub record IsFirst (F : ℕ → ℕ → Type 0) (condition place : ℕ) : Type 0 where
+  pub fails : F condition place
+  pub lowest : (other at : ℕ) → F other at → condition ≤ other
+  pub least : (at : ℕ) → F condition at → place ≤ at
 
 -- the smallest place at which something is so, or none
 abbrev pub IsLeastOrNone : (ℕ → Type 0) → Option ℕ → Type 0

@@ -94,19 +94,18 @@ Says _ = Lists (λ names. content.Uses names)
 -- Sections, one behind another, the first of which begins at a place.
 pub data AllSay : ℕ → List Section → List HeadSection → Type 0 where
   nothing : {at : ℕ} → AllSay at [] []
-  section_then : {at : ℕ} {s : Section} {ss : List Section} {c : Content} {hs : List HeadSection} → Says s.kind s.text at c → AllSay (at + length s.text) ss hs
-      → AllSay at (s ∷ ss) (record { place = told at; content = c } ∷ hs)
+  section_then : {at : ℕ} {s : Section} {ss : List Section} {h : HeadSection} {hs : List HeadSection} → h.place ≡ told at → Says s.kind s.text at h.content → AllSay (at + length s.text) ss hs
+      → AllSay at (s ∷ ss) (h ∷ hs)
 
 -- a text that is no outline has no head, and one section that is not read
 abbrev pub broken : ℕ → Part
 broken place = record { head = None; sections = record { place = place; content = content.Unread place } ∷ [] }
 
 -- What the head part of a text says; the place of a section is that of its header line in the head part. A text without an outline is at fault where its outline is, or at 0 without a head line.
-pub data IsPart (text : Bytes) : Part → Type 0 where
-  outlined : {o : Outline} {hs : List HeadSection} → Outlines text o → AllSay (length (head_line o.kind o.name) + 1) (head_sections o.sections) hs
-      → IsPart text (record { head = Some (o.kind, o.name); sections = hs })
-  bad : {place : ℕ} → IsBad text place → IsPart text (broken place)
-  headless : ((kind : TextKind) (name : Bytes) → HasHead text kind name → ⊥) → IsPart text (broken 0)
+pub data IsPart (text : Bytes) (p : Part) : Type 0 where
+  outlined : (o : Outline) → Outlines text o → p.head ≡ Some (o.kind, o.name) → AllSay (length (head_line o.kind o.name) + 1) (head_sections o.sections) p.sections → IsPart text p
+  bad : (place : ℕ) → IsBad text place → p ≡ broken place → IsPart text p
+  headless : ((kind : TextKind) (name : Bytes) → HasHead text kind name → ⊥) → p ≡ broken 0 → IsPart text p
 
 -- What the head parts of texts say, one by one.
 pub data AreParts : List Bytes → List Part → Type 0 where

@@ -76,10 +76,16 @@ pub record AreScopes (parts : List Part) (scopes : Scopes) : Type 0 where
 abbrev pub HasSomeHead : Bytes → Type 0
 HasSomeHead text = (kind : TextKind) × (name : Bytes) × HasHead text kind name
 
--- Texts in front of the one with header lines, and that text, where there is one: the last, if it is not the first and has no head line.
-pub data IsSplit (texts : List Bytes) : List Bytes → Option Bytes → Type 0 where
-  whole : ((front : List Bytes) (last : Bytes) → texts ≡ front ++ last ∷ [] → (front ≡ []) ⊎ HasSomeHead last) → IsSplit texts texts None
-  behind : {front : List Bytes} {lines : Bytes} → texts ≡ front ++ lines ∷ [] → front ≢ [] → (HasSomeHead lines → ⊥) → IsSplit texts front (Some lines)
+-- The last text is that of header lines: it is not the first, and has no head line.
+pub record HasLines (texts front : List Bytes) (lines : Bytes) : Type 0 where
+  pub cut : texts ≡ front ++ lines ∷ []
+  pub behind : front ≢ []
+  pub headless : HasSomeHead lines → ⊥
+
+-- texts in front of the one with header lines, and that text, where there is one
+abbrev pub IsSplit : List Bytes → List Bytes → Option Bytes → Type 0
+IsSplit texts front None = (front ≡ texts) × ((before : List Bytes) (last : Bytes) → HasLines texts before last → ⊥)
+IsSplit texts front (Some lines) = HasLines texts front lines
 
 -- What texts say as the inputs of a work: head parts, and behind them the header lines of the own text's other sections, where the last text has no head line.
 pub record AreInputs (texts : List Bytes) (parts : List Part) (lines : Option Bytes) : Type 0 where
