@@ -1,4 +1,4 @@
-use crate::{OutlineFault, SectionKind, TextKind, find, head_of, outline_of};
+use crate::{OutlineFault, SectionKind, TextKind, find, head_of, head_part, header_lines, outline_of};
 use std::alloc::{AllocError, Global};
 use vd_base::Text;
 
@@ -94,5 +94,29 @@ fn sections_are_found(rt: HostRuntime) -> Result<(), AllocError> {
     }
     assert!(rt; find(sections, SectionKind::Script, None).is_none());
     assert!(rt; find(sections, SectionKind::Fn, Some(b"mai")).is_none());
+    Ok(())
+}
+
+#[test]
+fn texts_have_head_parts(rt: HostRuntime) -> Result<(), AllocError> {
+    let rows: [(&[u8], &[u8], &[u8]); 3] = [
+        (b"interface I\n", b"interface I\n", b""),
+        (LINK, LINK, b""),
+        (
+            b"unit u\nfn f\nx\nend\nuses\nI\nend\nscript f\nend\nspec f\nend\nsub f\nend\ninit\nend\n",
+            b"unit u\nuses\nI\nend\nspec f\nend\n",
+            b"fn f\nscript f\nsub f\ninit\n",
+        ),
+    ];
+    for (bytes, head, lines) in rows {
+        let text = Text::new(rt.alloc(), bytes)?;
+        let Ok(outline) = outline_of(rt.alloc(), &text) else {
+            return Err(AllocError);
+        };
+        let own_head = head_part(rt.alloc(), &outline)?;
+        let own_lines = header_lines(rt.alloc(), &outline)?;
+        assert!(rt; own_head.as_bytes() == head);
+        assert!(rt; own_lines.as_bytes() == lines);
+    }
     Ok(())
 }

@@ -81,7 +81,7 @@ module _ (parts : List Part) where
 
   -- Some declaration of the name is seen.
   abbrev pub Knows : ℕ → Space → Bytes → Type 0
-  Knows own s name = (k i : ℕ) × (c : Content) × Sees own s name k i c
+  Knows own s name = (k : ℕ) × (i : ℕ) × (c : Content) × Sees own s name k i c
 
   -- The part itself does not declare the name before its section of that number.
   abbrev pub IsFirstOwn : ℕ → Space → Bytes → ℕ → Type 0
@@ -91,7 +91,7 @@ module _ (parts : List Part) where
   abbrev pub Means : ℕ → Space → Bytes → Content → Type 0
   Means own s name c =
       ((i : ℕ) × IsDeclared parts s name own i c × IsFirstOwn own s name i)
-      ⊎ (((i : ℕ) (d : Content) → IsDeclared parts s name own i d → ⊥) × ((k i : ℕ) × Sees own s name k i c))
+      ⊎ (((i : ℕ) (d : Content) → IsDeclared parts s name own i d → ⊥) × ((k : ℕ) × (i : ℕ) × Sees own s name k i c))
 
   -- A name means one thing at most to a part.
   abbrev pub IsUnambiguous : ℕ → Type 0

@@ -39,7 +39,7 @@ module _ (lines : Bytes) where
 
     -- An interface that the unit exports specifies the function.
     abbrev pub IsExported : Bytes → Type 0
-    IsExported f = (n i : ℕ) × (c : Content) × Exports parts own n × IsDeclared parts space.Function f n i c
+    IsExported f = (n : ℕ) × (i : ℕ) × (c : Content) × Exports parts own n × IsDeclared parts space.Function f n i c
 
     -- What asks for nothing of the unit: a function without a specification, a proof or a subsumption without its function, a subsumption of what is not exported with a specification of the unit's own.
     pub data IsStray : Type 0 where

@@ -35,12 +35,12 @@ IsPointer t = (to : CType) × (t ≡ typ.Pointer to)
 module _ (parts : List Part) (own : ℕ) where
   -- The address of a global stands in a pointer to which it does not convert.
   pub record IsOtherPointer (g : List ℕ) (t : CType) : Type 0 where
-    pub field : Field
+    pub global : Field
     pub values : List Init
     pub to : CType
-    pub means : Means parts own space.Global g (content.Global field values)
+    pub means : Means parts own space.Global g (content.Global global values)
     pub pointer : t ≡ typ.Pointer to
-    pub differs : Converts (pointed field.typ) to → ⊥
+    pub differs : Converts (pointed global.typ) to → ⊥
 
   -- A value does not fit a cell: a number stands in integer cells, 0 in any, the address of a global where it converts. Nothing is said of cells without a type of one cell.
   abbrev pub IsUnfit : Init → CType → Type 0
