@@ -18,8 +18,8 @@ use Rattle.vd_scopes.specs.declared.content.Content.TheVariants as content
 use Rattle.vd_scopes.specs.declared.content.HeadSection.{HeadSection}
 use Rattle.vd_scopes.specs.declared.content.Mention.{Mention}
 use Rattle.vd_scopes.specs.declared.content.Part.{Part}
-use Rattle.vd_scopes.specs.declared.logic_text.LogicText.{LogicText}
-use Rattle.vd_scopes.specs.declared.logic_text.LogicText.TheVariants as logic
+use Rattle.vd_sparse.specs.declared.text.LogicText.{LogicText}
+use Rattle.vd_sparse.specs.declared.text.LogicText.TheVariants as logic
 use Rattle.vd_scopes.specs.Listing.{IsListing}
 use Rattle.vd_scopes.specs.LogicReader.{AnswersLogic}
 

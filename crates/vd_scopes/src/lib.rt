@@ -27,4 +27,6 @@ pub use scope::Scopes;
 pub use verdict::{HeadFault, scopes};
 
 #[cfg(test)]
+mod logic_tests;
+#[cfg(test)]
 mod tests;

@@ -5,7 +5,7 @@ use vd_base::{List, Text};
 use vd_outline::cut_at;
 
 /// The place and the condition that fails of texts with a byte 0 between each two; 0 and 0 where none does.
-fn failing(alloc: Global, texts: &[u8]) -> Result<(u32, u8), AllocError> {
+pub(crate) fn failing(alloc: Global, texts: &[u8]) -> Result<(u32, u8), AllocError> {
     let mut parts = List::new(alloc);
     let mut rest = texts;
     while let Some((text, after)) = cut_at(rest, 0) {
