@@ -1,7 +1,9 @@
 pub mod Completing
 pub mod Endings
+pub mod Gathering
 pub mod Heads
 pub mod Outcomes
 pub mod ReadLaws
+pub mod Submitting
 pub mod Words
 pub mod Writing

@@ -1,5 +1,5 @@
 // The snapshot that texts make.
-ghost use Rattle.std.specs.Prelude.{◌≡◌, ◌↔◌, ◌<◌, ◌^◌, IfOk, MatchOption, All, if◌then◌else◌};
+ghost use Rattle.std.specs.Prelude.{◌≡◌, ◌↔◌, ◌<◌, ◌^◌, true, false, IfOk, MatchOption, All};
 ghost use Rattle.vd_app.specs.Submission.{Entries, IsFirstHeadlessAt, IsHeaded, IsHeadless, PutsText, Submits};
 
 use std::alloc::{AllocError, Global};
@@ -10,7 +10,8 @@ use vd_store::{Snapshot, Store};
 /// Makes a text the current one of the name of its head line; false where it has none.
 fn put_text(alloc: Global, store: &mut Store, text: Text) -> Result<bool, AllocError>
     requires { store.old.puts < 2 ^ 31 }
-    ensures { IfOk result (λ put. if put then PutsText store.old text store.new else IsHeadless text) }
+    ensures put { IfOk result (λ put. put ≡ true → PutsText store.old text store.new) }
+    ensures headless { IfOk result (λ put. put ≡ false → IsHeadless text) }
 {
     match head_of(alloc, &text)? {
         Some((_, name)) => {
