@@ -1,2 +1,10 @@
+pub mod Borrowed
+pub mod Closure
+pub mod Conditions
+pub mod Declaration
 pub mod Form
+pub mod Index
 pub mod Program
+pub mod Shape
+pub mod Table
+pub mod Texts

@@ -3,7 +3,19 @@
 #![tactic(auto)]
 
 mod assembly;
+mod borrowed;
+mod code;
+mod declared;
+mod failure;
 mod form;
+mod linking;
+mod main_of;
+mod shape;
+mod table;
+mod texts;
+mod whole;
 
 pub use assembly::program;
 pub use form::is_plain;
+pub use linking::conditions;
+pub use whole::is_whole;
