@@ -4,6 +4,8 @@ pub mod Gathering
 pub mod Heads
 pub mod Outcomes
 pub mod ReadLaws
+pub mod Runs
+pub mod Schedules
 pub mod Submitting
 pub mod Words
 pub mod Writing

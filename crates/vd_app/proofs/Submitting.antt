@@ -34,16 +34,18 @@ one_snapshot texts current snapshot after is entries = (
   λ e. record { current = current; after = after; is = e ∙ is },
 )
 
--- ---- one more text
+-- ---- the next text
 
-pub one_more : (texts : List (List ℕ)) (text : List ℕ) (t u v : Texts) → SubmitsAfter t texts u → PutsText u text v → SubmitsAfter t (texts ++ text ∷ []) v
-one_more [] text t u v p q = (v, subst (λ (s : Texts). PutsText s text v) p q, refl)
-one_more (x ∷ texts) text t u v p q = (p.0, p.1, one_more texts text p.0 u v p.2 q)
+-- putting the first of texts leaves the rest to be put
+pub next_text : (before next : Texts) (text : List ℕ) (texts : List (List ℕ)) → PutsText before text next → (current : Texts) → SubmitsAfter before (text ∷ texts) current ↔ SubmitsAfter next texts current
+next_text before next text texts put current = (
+  λ p. subst (λ (s : Texts). SubmitsAfter s texts current) (one_put before p.0 next text p.1 put) p.2,
+  λ p. (next, put, p),
+)
 
 -- a text without a head line makes no snapshot
-pub headless_stops : (before after : List (List ℕ)) (text : List ℕ) (t u : Texts) → IsHeadless text → SubmitsAfter t (before ++ text ∷ after) u → ⊥
-headless_stops [] after text t u none p = none p.1.headed.kind p.1.headed.name p.1.headed.head
-headless_stops (x ∷ before) after text t u none p = headless_stops before after text p.0 u none p.2
+pub headless_stops : (before : Texts) (text : List ℕ) (texts : List (List ℕ)) (current : Texts) → IsHeadless text → SubmitsAfter before (text ∷ texts) current → ⊥
+headless_stops before text texts current none p = none p.1.headed.kind p.1.headed.name p.1.headed.head
 
 -- texts with head lines make one
 pub some_after : (texts : List (List ℕ)) (t : Texts) → All IsHeaded texts → (u : Texts) × SubmitsAfter t texts u

@@ -1,1 +1,0 @@
-use Rattle.vd_app.proofs.submission.submitted.Goals as goal
