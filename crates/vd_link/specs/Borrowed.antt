@@ -1,6 +1,5 @@
 -- What the readers of sections say, as linking takes it. All that is still to come from other crates stands here and nowhere else.
-use Rattle.std.specs.Prelude.{◌≡◌, ◌≢◌, ℕ, List, [], ◌∷◌, ◌++◌, codes, Ok}
-use Rattle.vd_base.specs.declared.ctype.CType.{CType}
+use Rattle.std.specs.Prelude.{◌≡◌, ℕ, List, ◌++◌, codes, Ok}
 use Rattle.vd_base.specs.declared.ctype.Field.{Field}
 use Rattle.vd_clight.specs.declared.program.CScope.{CScope}
 use Rattle.vd_clight.specs.declared.program.Init.{Init}

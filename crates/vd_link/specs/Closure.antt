@@ -1,7 +1,7 @@
 -- Which interfaces texts reach, and in which order: a text's exports, then its uses, each at its first mention, followed by those that
 -- it uses. After Verified Software Units, where a unit sees what it imports and exports.
-use Rattle.std.specs.Prelude.{◌≡◌, ℕ, Bool, true, false, ◌||◌, List, [], ◌∷◌, ◌++◌, filter, flat_map, Option, None, Some}
-use Rattle.std.specs.List.{list_any}
+use Rattle.std.specs.Prelude.{◌≡◌, ℕ, Bool, true, false, List, [], ◌∷◌, ◌++◌, map, flat_map, Option, None, Some}
+use Rattle.std.specs.List.{filter, list_any}
 use Rattle.std.specs.Str.{bytes_eq}
 use Rattle.vd_outline.specs.declared.outline.Outline.{Outline}
 use Rattle.vd_outline.specs.declared.outline.TextKind.TheVariants.{Interface}
@@ -58,7 +58,7 @@ Reach texts os names = ReachFrom texts [] os names
 
 -- the outlines of the names that are interfaces with an outline, in order
 pub data Interfaces (texts : List Entry) : List Bytes → List Outline → Type 0 where
-  none : Interfaces texts [] []
+  no_names : Interfaces texts [] []
   skipped : {name : Bytes} {names : List Bytes} {os : List Outline} → IsMissing texts Interface name → Interfaces texts names os → Interfaces texts (name ∷ names) os
   taken : {name : Bytes} {names : List Bytes} {o : Outline} {os : List Outline} → IsOutlined texts Interface name o → Interfaces texts names os → Interfaces texts (name ∷ names) (o ∷ os)
 
@@ -80,4 +80,4 @@ pub record HasParts (texts : List Entry) (o : Outline) (parts : List Bytes) : Ty
   pub reach : Reach texts (o ∷ []) names
   pub interfaces : List Outline
   pub are : Interfaces texts names interfaces
-  pub is : parts ≡ flat_map (λ i. head_part i ∷ []) (o ∷ interfaces)
+  pub is : parts ≡ map head_part (o ∷ interfaces)

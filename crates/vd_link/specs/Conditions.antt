@@ -1,6 +1,8 @@
 -- The conditions under which a link's units fit together, as far as a program needs them. After Verified Software Units: imports are
 -- matched with exports, and each name is declared once.
-use Rattle.std.specs.Prelude.{◌≡◌, ◌≢◌, ◌⊎◌, ℕ, ◌+◌, ◌<◌, ◌-◌, ◌^◌, min, true, false, List, [], ◌∷◌, ◌++◌, take, drop, length, slice_get, flat_map, codes, decimal, Some}
+use Rattle.std.specs.Prelude.{◌≡◌, ◌⊎◌, ℕ, ◌+◌, ◌<◌, ◌-◌, ◌^◌, min, Bool, true, false, List, [], ◌∷◌, ◌++◌, length, slice_get, flat_map, codes, decimal, nat_le, Some}
+use Rattle.std.specs.List.{count_by}
+use Rattle.std.specs.Str.{bytes_eq}
 use Rattle.vd_base.specs.declared.ctype.CType.{Int}
 use Rattle.vd_clight.specs.declared.syntax.FnText.{FnText}
 use Rattle.vd_outline.specs.declared.outline.Outline.{Outline}
@@ -9,8 +11,8 @@ use Rattle.vd_outline.specs.declared.section.Section.{Section}
 use Rattle.vd_outline.specs.declared.section.SectionKind.TheVariants as section
 use Rattle.vd_outline.specs.Fault.{IsBadAt}
 use Rattle.vd_outline.specs.Lookup.{section_called}
-use Rattle.vd_outline.specs.Outline.{Bytes, HasHead, Outlines, head_line}
-use Rattle.vd_link.specs.Borrowed.{IsFunction, IsListing, IsListingFault, IsLogic}
+use Rattle.vd_outline.specs.Outline.{Bytes, head_line}
+use Rattle.vd_link.specs.Borrowed.{IsFunction, IsListingFault, IsLogic}
 use Rattle.vd_link.specs.Closure.{Lists, has_name}
 use Rattle.vd_link.specs.Declaration.{Declaration, DeclareAll, IsFirstTwice}
 use Rattle.vd_link.specs.Form.{Entry}
@@ -28,12 +30,16 @@ pub data IsLinkFault (texts : List Entry) (link : Bytes) : ℕ → Type 0 where
 
 -- ---- 2: the listed names are units, each once
 
--- a name behind others that are units and stand once
+-- the name stands more than once
+abbrev pub is_repeated : List Bytes → Bytes → Bool
+is_repeated names name = nat_le 2 (count_by (λ n. bytes_eq n name) names)
+
+-- the first of the names that is no unit or stands more than once
 pub record IsFirstOther (texts : List Entry) (names : List Bytes) (name : Bytes) : Type 0 where
   pub place : ℕ
   pub at : slice_get names place ≡ Some name
-  pub bad : IsMissing texts UnitText name ⊎ (has_name (take place names) name ≡ true)
-  pub before : (k : ℕ) (n : Bytes) → k < place → slice_get names k ≡ Some n → ((o : Outline) × IsOutlined texts UnitText n o) × (has_name (take k names) n ≡ false)
+  pub bad : IsMissing texts UnitText name ⊎ (is_repeated names name ≡ true)
+  pub before : (k : ℕ) (n : Bytes) → k < place → slice_get names k ≡ Some n → ((o : Outline) × IsOutlined texts UnitText n o) × (is_repeated names n ≡ false)
 
 -- ---- 3: what is reached is an interface
 
@@ -109,15 +115,15 @@ pub record HasOneMain (units : List Outline) : Type 0 where
 
 -- A condition fails, by its number in a report, with the words that a report gives behind it.
 pub data Fails (texts : List Entry) (link : Bytes) : ℕ → List Bytes → Type 0 where
-  grammar : {place : ℕ} → IsLinkFault texts link place → Fails texts link 1 (decimal (min place (2 ^ 32 - 1)) ∷ [])
-  unit : {names : List Bytes} {name : Bytes} → IsLink texts link names → IsFirstOther texts names name → Fails texts link 2 (name ∷ [])
-  interface : {names reached : List Bytes} {units interfaces : List Outline} {name : Bytes} → HasShape texts link names units reached interfaces → IsFirstMissing texts reached name → Fails texts link 3 (name ∷ [])
-  twofold : {names reached : List Bytes} {units interfaces : List Outline} {name one two : Bytes} → HasShape texts link names units reached interfaces → IsFirstTwofold units reached name one two
+  outside_grammar : {place : ℕ} → IsLinkFault texts link place → Fails texts link 1 (decimal (min place (2 ^ 32 - 1)) ∷ [])
+  no_unit : {names : List Bytes} {name : Bytes} → IsLink texts link names → IsFirstOther texts names name → Fails texts link 2 (name ∷ [])
+  no_interface : {names reached : List Bytes} {units interfaces : List Outline} {name : Bytes} → HasShape texts link names units reached interfaces → IsFirstMissing texts reached name → Fails texts link 3 (name ∷ [])
+  exported_twice : {names reached : List Bytes} {units interfaces : List Outline} {name one two : Bytes} → HasShape texts link names units reached interfaces → IsFirstTwofold units reached name one two
       → Fails texts link 4 (name ∷ (one ∷ (two ∷ [])))
-  orphan : {names reached : List Bytes} {units interfaces : List Outline} {name : Bytes} → HasShape texts link names units reached interfaces → IsFirstOrphan texts units reached name → Fails texts link 5 (name ∷ [])
-  twice : {names reached : List Bytes} {units interfaces : List Outline} {left own : List Declaration} {name : Bytes} → HasShape texts link names units reached interfaces
+  not_exported : {names reached : List Bytes} {units interfaces : List Outline} {name : Bytes} → HasShape texts link names units reached interfaces → IsFirstOrphan texts units reached name → Fails texts link 5 (name ∷ [])
+  declared_twice : {names reached : List Bytes} {units interfaces : List Outline} {left own : List Declaration} {name : Bytes} → HasShape texts link names units reached interfaces
       → DeclareAll interfaces left → DeclareAll units own → IsFirstTwice units left (left ++ own) name → Fails texts link 6 (name ∷ [])
-  main : {names reached : List Bytes} {units interfaces : List Outline} → HasShape texts link names units reached interfaces → (HasOneMain units → ⊥) → Fails texts link 7 []
+  no_main : {names reached : List Bytes} {units interfaces : List Outline} → HasShape texts link names units reached interfaces → (HasOneMain units → ⊥) → Fails texts link 7 []
 
 -- the first condition that fails, in the order of their numbers
 pub record IsFirstFailure (texts : List Entry) (link : Bytes) (condition : ℕ) (words : List Bytes) : Type 0 where

@@ -1,5 +1,5 @@
 -- What texts declare, and what is declared twice. There are four name spaces.
-use Rattle.std.specs.Prelude.{◌≡◌, ◌≢◌, ◌⊎◌, ℕ, ◌<◌, List, [], ◌∷◌, ◌++◌, slice_get, Option, None, Some}
+use Rattle.std.specs.Prelude.{◌≡◌, ◌≢◌, ◌⊎◌, ℕ, ◌<◌, List, [], ◌∷◌, ◌++◌, true, slice_get, Option, None, Some}
 use Rattle.vd_base.specs.declared.ctype.Field.{Field}
 use Rattle.vd_clight.specs.declared.program.Init.{Init}
 use Rattle.vd_clight.specs.declared.syntax.FnText.{FnText}
@@ -43,16 +43,16 @@ pub record Declaration : Type 0 where
 
 -- what the sections of a text declare, in order; one that is not read declares nothing
 pub data Declares (owner : Bytes) : List Section → List Declaration → Type 0 where
-  none : Declares owner [] []
-  other : {s : Section} {ss : List Section} {ds : List Declaration} → space_of s.kind ≡ None → Declares owner ss ds → Declares owner (s ∷ ss) ds
+  no_sections : Declares owner [] []
+  silent : {s : Section} {ss : List Section} {ds : List Declaration} → space_of s.kind ≡ None → Declares owner ss ds → Declares owner (s ∷ ss) ds
   unread : {s : Section} {ss : List Section} {ds : List Declaration} → (IsRead s.kind s.text → ⊥) → Declares owner ss ds → Declares owner (s ∷ ss) ds
   read : {s : Section} {ss : List Section} {ds : List Declaration} {space : Space} {name : Bytes} → space_of s.kind ≡ Some space → s.name ≡ Some name → IsRead s.kind s.text
       → Declares owner ss ds → Declares owner (s ∷ ss) (record { space = space; name = name; kind = s.kind; owner = owner } ∷ ds)
 
 -- what texts declare, in order
 pub data DeclareAll : List Outline → List Declaration → Type 0 where
-  none : DeclareAll [] []
-  more : {o : Outline} {os : List Outline} {ds es : List Declaration} → Declares o.name o.sections ds → DeclareAll os es → DeclareAll (o ∷ os) (ds ++ es)
+  no_texts : DeclareAll [] []
+  text : {o : Outline} {os : List Outline} {ds es : List Declaration} → Declares o.name o.sections ds → DeclareAll os es → DeclareAll (o ∷ os) (ds ++ es)
 
 -- of the same name in the same name space
 abbrev pub IsSame : Declaration → Declaration → Type 0
@@ -77,7 +77,7 @@ pub record IsDefinition (units : List Outline) (left : List Declaration) (d : De
   pub here : slice_get left declared ≡ Some declaration
   pub same : IsSame declaration d
   pub is_left : IsLeft declaration.kind
-  pub of : has_name exported declaration.owner ≡ Prim.Bool.true
+  pub is_exported : has_name exported declaration.owner ≡ true
 
 -- Two declarations of one name that no definition joins. A unit's own specification and function of one name are one declaration.
 -- `left` are the declarations of the interfaces, which stand before those of the units.

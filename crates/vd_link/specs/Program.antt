@@ -1,5 +1,5 @@
 -- The program of a link over a snapshot: the functions and globals of its units, in the order of the link, with main.
-use Rattle.std.specs.Prelude.{◌≡◌, ℕ, true, List, [], ◌∷◌, ◌++◌, Option, None, Some, Ok, slice_get, codes}
+use Rattle.std.specs.Prelude.{◌≡◌, true, List, [], ◌∷◌, ◌++◌, Option, None, Some, Ok, slice_get, codes}
 use Rattle.vd_base.specs.declared.ctype.Field.{Field}
 use Rattle.vd_base.specs.Layout.{size_of}
 use Rattle.vd_clight.specs.declared.program.CScope.{CScope}
@@ -35,10 +35,10 @@ pub record IsDefined (scope : CScope) (s : Section) (g : GlobalDef) : Type 0 whe
 
 -- the typed functions and the globals of sections, in order; all functions are read and typed
 pub data HasCode (scope : CScope) : List Section → List TypedFn → List GlobalDef → Type 0 where
-  none : HasCode scope [] [] []
-  function : {s : Section} {ss : List Section} {t : TypedFn} {ts : List TypedFn} {gs : List GlobalDef} → s.kind ≡ section.Fn → IsTyped scope s t → HasCode scope ss ts gs → HasCode scope (s ∷ ss) (t ∷ ts) gs
-  global : {s : Section} {ss : List Section} {ts : List TypedFn} {g : GlobalDef} {gs : List GlobalDef} → s.kind ≡ section.Global → IsDefined scope s g → HasCode scope ss ts gs → HasCode scope (s ∷ ss) ts (g ∷ gs)
-  other : {s : Section} {ss : List Section} {ts : List TypedFn} {gs : List GlobalDef} → (s.kind ≡ section.Fn → ⊥) → (s.kind ≡ section.Global → ⊥) → HasCode scope ss ts gs → HasCode scope (s ∷ ss) ts gs
+  no_sections : HasCode scope [] [] []
+  fn_section : {s : Section} {ss : List Section} {t : TypedFn} {ts : List TypedFn} {gs : List GlobalDef} → s.kind ≡ section.Fn → IsTyped scope s t → HasCode scope ss ts gs → HasCode scope (s ∷ ss) (t ∷ ts) gs
+  global_section : {s : Section} {ss : List Section} {ts : List TypedFn} {g : GlobalDef} {gs : List GlobalDef} → s.kind ≡ section.Global → IsDefined scope s g → HasCode scope ss ts gs → HasCode scope (s ∷ ss) ts (g ∷ gs)
+  other_section : {s : Section} {ss : List Section} {ts : List TypedFn} {gs : List GlobalDef} → (s.kind ≡ section.Fn → ⊥) → (s.kind ≡ section.Global → ⊥) → HasCode scope ss ts gs → HasCode scope (s ∷ ss) ts gs
 
 -- the code of a unit, under the scope of its closure's head parts
 pub record IsUnitCode (texts : List Entry) (o : Outline) (ts : List TypedFn) (gs : List GlobalDef) : Type 0 where
@@ -50,8 +50,8 @@ pub record IsUnitCode (texts : List Entry) (o : Outline) (ts : List TypedFn) (gs
 
 -- the code of units, in order
 pub data AreCode (texts : List Entry) : List Outline → List TypedFn → List GlobalDef → Type 0 where
-  none : AreCode texts [] [] []
-  more : {o : Outline} {os : List Outline} {ts us : List TypedFn} {gs hs : List GlobalDef} → IsUnitCode texts o ts gs → AreCode texts os us hs → AreCode texts (o ∷ os) (ts ++ us) (gs ++ hs)
+  no_units : AreCode texts [] [] []
+  unit : {o : Outline} {os : List Outline} {ts us : List TypedFn} {gs hs : List GlobalDef} → IsUnitCode texts o ts gs → AreCode texts os us hs → AreCode texts (o ∷ os) (ts ++ us) (gs ++ hs)
 
 -- the program that the link has over the texts
 pub record IsProgram (texts : List Entry) (link : Bytes) (p : Program) : Type 0 where

@@ -1,10 +1,9 @@
 -- What a link lists and reaches.
-use Rattle.std.specs.Prelude.{◌≡◌, ℕ, Bool, true, false, List, [], ◌∷◌, ◌++◌, Option, None, Some}
+use Rattle.std.specs.Prelude.{◌≡◌, true, false, List, [], ◌∷◌}
 use Rattle.vd_outline.specs.declared.outline.Outline.{Outline}
 use Rattle.vd_outline.specs.declared.outline.TextKind.TheVariants.{Unit as UnitText, Link}
 use Rattle.vd_outline.specs.declared.section.SectionKind.TheVariants as section
 use Rattle.vd_outline.specs.Outline.{Bytes}
-use Rattle.vd_link.specs.Borrowed.{IsListing}
 use Rattle.vd_link.specs.Closure.{has_name, Lists, Reach, Interfaces}
 use Rattle.vd_link.specs.Form.{Entry}
 use Rattle.vd_link.specs.Texts.{IsOutlined, IsMissing}
@@ -17,7 +16,7 @@ pub record IsLink (texts : List Entry) (link : Bytes) (names : List Bytes) : Typ
 
 -- the units that have an outline, of names of which each counts once, in order, behind names met before
 pub data Units (texts : List Entry) : List Bytes → List Bytes → List Outline → Type 0 where
-  none : {met : List Bytes} → Units texts met [] []
+  no_names : {met : List Bytes} → Units texts met [] []
   again : {met names : List Bytes} {name : Bytes} {os : List Outline} → has_name met name ≡ true → Units texts met names os → Units texts met (name ∷ names) os
   skipped : {met names : List Bytes} {name : Bytes} {os : List Outline} → has_name met name ≡ false → IsMissing texts UnitText name → Units texts (name ∷ met) names os → Units texts met (name ∷ names) os
   taken : {met names : List Bytes} {name : Bytes} {o : Outline} {os : List Outline} → has_name met name ≡ false → IsOutlined texts UnitText name o → Units texts (name ∷ met) names os

@@ -1,11 +1,9 @@
 -- Looking up the texts of a snapshot.
-use Rattle.std.specs.Prelude.{◌≡◌, ℕ, List, [], ◌∷◌, Option, None, Some, option_map, filter}
+use Rattle.std.specs.Prelude.{◌≡◌, List, Option, Some, option_map}
 use Rattle.std.specs.List.{find}
 use Rattle.std.specs.Str.{bytes_eq}
 use Rattle.vd_outline.specs.declared.outline.Outline.{Outline}
 use Rattle.vd_outline.specs.declared.outline.TextKind.{TextKind}
-use Rattle.vd_outline.specs.declared.section.Section.{Section}
-use Rattle.vd_outline.specs.declared.section.SectionKind.{SectionKind}
 use Rattle.vd_outline.specs.Outline.{Bytes, HasHead, Outlines}
 use Rattle.vd_link.specs.Form.{Entry}
 

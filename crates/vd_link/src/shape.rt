@@ -52,17 +52,29 @@ pub(crate) fn listed(
     }
 }
 
-/// The outlines of units of these names, each of which stands once; or the first name that is no unit or stands twice.
+/// The names that stand more than once.
+fn repeated<'n>(alloc: Global, names: &'n [Name]) -> Result<BTreeSet<&'n [u8]>, AllocError> {
+    let mut met: BTreeSet<&'n [u8]> = BTreeSet::new(alloc);
+    let mut repeated: BTreeSet<&'n [u8]> = BTreeSet::new(alloc);
+    for name in names {
+        let is_new = met.insert(name.as_bytes())?;
+        if !is_new {
+            repeated.insert(name.as_bytes())?;
+        }
+    }
+    Ok(repeated)
+}
+
+/// The outlines of units of these names, each of which stands once; or the first name that is no unit or stands more than once.
 fn units_named(
     alloc: Global,
     index: &Index<'_>,
     names: &List<Name>,
 ) -> Result<Linked<List<Outline>>, AllocError> {
-    let mut met: BTreeSet<&[u8]> = BTreeSet::new(alloc);
+    let repeated = repeated(alloc, names.as_slice())?;
     let mut units = List::new(alloc);
     for name in names.as_slice() {
-        let is_new = met.insert(name.as_bytes())?;
-        if !is_new {
+        if repeated.contains(name.as_bytes()) {
             return Ok(Linked::Fails(of_name(alloc, 2, name.as_bytes())?));
         }
         match index.outlined(alloc, TextKind::Unit, name.as_bytes())? {

@@ -140,10 +140,10 @@ fn is_whole_target(temps: usize, target: Option<u32>) -> bool
     }
 }
 
-fn is_whole_result(names: &Names<'_>, temps: usize, result: &Option<TExpr>) -> bool
-    ensures { (p : Whole_program) → AreNamesOf p names.now → result ≡ whole.is_whole_result p temps result.now }
+fn is_whole_result(names: &Names<'_>, temps: usize, value: &Option<TExpr>) -> bool
+    ensures { (p : Whole_program) → AreNamesOf p names.now → result ≡ whole.is_whole_result p temps value.now }
 {
-    match result {
+    match value {
         Some(e) => is_whole_expression(names, temps, e),
         None => true,
     }
