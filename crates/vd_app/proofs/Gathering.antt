@@ -1,5 +1,5 @@
 -- Names and bytes of texts, one more at a time.
-use Rattle.std.proofs.Common.{suc, ◌≡◌, ◌⊎◌, inl, inr, ℕ, ◌+◌, ◌<◌, ◌≤◌, List, [], ◌∷◌, ◌++◌, length, refl, ap, sym, ◌∙◌, subst, arith}
+use Rattle.std.proofs.Common.{suc, ◌≡◌, ◌⊎◌, inl, inr, ℕ, ◌+◌, ◌<◌, ◌≤◌, List, [], ◌∷◌, ◌++◌, length, codes, refl, ap, sym, ◌∙◌, subst, arith}
 use Rattle.std.specs.declared.cmp.Ordering.{Ordering}
 use Rattle.std.specs.declared.cmp.Ordering.TheVariants.{Less, Equal, Greater}
 use Rattle.std.specs.Ordering.{match_ordering}
@@ -19,6 +19,17 @@ bytes_more xs x = let both = bytes_append xs (x ∷ []) in omega (arith, both)
 pub join_more : (texts : List (List ℕ)) (text : List ℕ) (a b c : List (List ℕ)) → JoinAll a texts b → Joins b text c → JoinAll a (texts ++ text ∷ []) c
 join_more [] text a b c p q = (c, subst (λ ns. Joins ns text c) p q, refl)
 join_more (x ∷ texts) text a b c p q = (p.0, p.1, join_more texts text p.0 b c p.2 q)
+
+-- ---- with one more text a limit is passed
+
+pub over_bytes : (texts : List (List ℕ)) (text : List ℕ) (bytes : ℕ) → bytes ≡ bytes_of texts → byte_limit < bytes + length text → PassesOver (texts ++ text ∷ []) (codes "bytes") byte_limit
+over_bytes texts text bytes is over = let more = bytes_more texts text in inl (refl, refl, omega (arith, more, is, over))
+
+pub over_names : (texts : List (List ℕ)) (text : List ℕ) (bytes : ℕ) (names after : List (List ℕ)) → bytes ≡ bytes_of texts → bytes + length text ≤ byte_limit → JoinAll [] texts names → Joins names text after
+    → name_limit < length after → PassesOver (texts ++ text ∷ []) (codes "names") name_limit
+over_names texts text bytes names after is few all one over =
+    let more = bytes_more texts text in
+    inr (refl, refl, omega (arith, more, is, few), record { names = after; are = join_more texts text [] names after all one; many = over })
 
 -- ---- one result
 

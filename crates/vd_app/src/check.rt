@@ -6,7 +6,7 @@ ghost use Rattle.vd_app.specs.Call.{Means};
 ghost use Rattle.vd_app.specs.Steps.{Finishes};
 
 use crate::ending::{Ending, finish};
-use crate::files::{ReadFault, read_files};
+use crate::files::{ending_of, read_files};
 use crate::output::{put_line, put_lines};
 use crate::submission::submitted;
 use std::alloc::{AllocError, Global};
@@ -78,9 +78,7 @@ pub fn check<'a, H: Shelf, K: Sink>(
 {
     let texts = match read_files(alloc, files, shelf) {
         Ok(texts) => texts,
-        Err(ReadFault::CannotRead(file)) => return Ending::CannotRead(file),
-        Err(ReadFault::Limit(what, bound)) => return Ending::Limit(what, bound),
-        Err(ReadFault::Memory) => return Ending::Memory,
+        Err(fault) => return ending_of(fault),
     };
     match outcome_of(alloc, texts, link) {
         Ok(Some(outcome)) => put_outcome(alloc, &outcome, link, out),

@@ -1,9 +1,12 @@
 // The files of a command.
-ghost use Rattle.std.specs.Prelude.{◌≡◌, ◌≤◌, map, string_bytes, IfOk, IfErr};
-ghost use Rattle.vd_app.specs.Command.{Bytes, Check};
+ghost use Rattle.std.specs.Prelude.{◌≡◌, ◌≤◌, map, string_bytes, Some, IfOk, IfErr};
+ghost use Rattle.vd_app.specs.Call.{Means};
+ghost use Rattle.vd_app.specs.Command.{Bytes, Check, Command, CommandLine, command_of};
 ghost use Rattle.vd_app.specs.Reading.{AreRead, IsRead};
+ghost use Rattle.vd_app.specs.Seen.{ShelfSeen, SinkSeen, IsUntouched};
 ghost use Rattle.vd_app.specs.Steps.{FileStops, ReadStops};
 
+use crate::ending::Ending;
 use std::alloc::Global;
 use vd_base::{List, Shelf, ShelfFault, Text};
 
@@ -17,6 +20,17 @@ pub enum ReadFault<'a> {
     /// What passes a limit, and the limit.
     Limit(&'a str, u64),
     Memory,
+}
+
+/// How a call ends whose files were not read.
+pub fn ending_of<'a>(fault: ReadFault<'a>) -> Ending<'a>
+    ensures { (words : CommandLine) (command : Command) (shelf : ShelfSeen) (out : SinkSeen) → command_of words ≡ Some command → ReadStops command shelf fault.entry → IsUntouched out → Means result words shelf out }
+{
+    match fault {
+        ReadFault::CannotRead(file) => Ending::CannotRead(file),
+        ReadFault::Limit(what, bound) => Ending::Limit(what, bound),
+        ReadFault::Memory => Ending::Memory,
+    }
 }
 
 /// Reads a file that has no more bytes than a file may have.

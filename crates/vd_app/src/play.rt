@@ -3,15 +3,15 @@ ghost use Rattle.std.specs.Prelude.{◌≡◌, ◌↔◌, ◌≤◌, map, string
 ghost use Rattle.vd_link.specs.Form.{IsPlainText};
 ghost use Rattle.vd_schedule.specs.Schedule.{IsSchedule, turn_limit};
 ghost use Rattle.vd_app.specs.Answer.{IsPlayed, Plays, written_text};
-ghost use Rattle.vd_app.specs.Command.{Bytes, CommandLine, Command, command_of, Play};
+ghost use Rattle.vd_app.specs.Command.{Bytes, CommandLine, command_of, Play};
 ghost use Rattle.vd_app.specs.Call.{Means};
 ghost use Rattle.vd_app.specs.Gathering.{answer_in, IsRunRead, IsSoleSchedule};
-ghost use Rattle.vd_app.specs.Seen.{ShelfSeen, SinkSeen, IsUntouched};
-ghost use Rattle.vd_app.specs.Steps.{Finishes, ReadStops};
+ghost use Rattle.vd_app.specs.Seen.{ShelfSeen};
+ghost use Rattle.vd_app.specs.Steps.{Finishes};
 ghost use Rattle.vd_app.specs.Submission.{IsHeaded};
 
 use crate::ending::{Ending, finish};
-use crate::files::ReadFault;
+use crate::files::ending_of;
 use crate::inputs::{Schedule, read_schedule, read_texts};
 use crate::lines::{goes_well, lines_of};
 use crate::output::put_lines;
@@ -129,17 +129,6 @@ fn play_read<'a, K: Sink>(
         Ok(Some(played)) => put_played(alloc, &played, out),
         Ok(None) => Ending::Unbuilt,
         Err(_) => Ending::Memory,
-    }
-}
-
-/// How a call ends whose files were not read.
-fn ending_of<'a>(fault: ReadFault<'a>) -> Ending<'a>
-    ensures { (words : CommandLine) (command : Command) (shelf : ShelfSeen) (out : SinkSeen) → command_of words ≡ Some command → ReadStops command shelf fault.entry → IsUntouched out → Means result words shelf out }
-{
-    match fault {
-        ReadFault::CannotRead(file) => Ending::CannotRead(file),
-        ReadFault::Limit(what, bound) => Ending::Limit(what, bound),
-        ReadFault::Memory => Ending::Memory,
     }
 }
 
