@@ -1,5 +1,5 @@
 -- A call over files that are told, held and within the limits answers by the definitions.
-use Rattle.std.proofs.Common.{◌≡◌, ◌⊎◌, inl, inr, ℕ, ◌≤◌, List, [], ◌∷◌, ◌++◌, length, None, Some, refl, ap, sym, ◌∙◌, append_assoc, arith, subst}
+use Rattle.std.proofs.Common.{◌≡◌, inl, inr, ℕ, ◌≤◌, List, [], ◌∷◌, ◌++◌, length, None, Some, refl, ap, sym, ◌∙◌, append_assoc, arith, subst}
 use Rattle.vd_base.specs.Cause.{Rose}
 use Rattle.vd_base.specs.Shelf.{Holding, Absent, Holds, Agrees}
 use Rattle.vd_app.specs.Answer.{Answer, HasForm, Answers}

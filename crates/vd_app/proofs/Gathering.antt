@@ -1,12 +1,11 @@
 -- Names and bytes of texts, one more at a time.
-use Rattle.std.proofs.Common.{suc, ◌≡◌, ◌⊎◌, inl, inr, ℕ, ◌+◌, ◌<◌, ◌≤◌, List, [], ◌∷◌, ◌++◌, length, codes, refl, ap, sym, ◌∙◌, subst, arith}
+use Rattle.std.proofs.Common.{◌≡◌, inl, inr, ℕ, ◌+◌, ◌<◌, ◌≤◌, List, [], ◌∷◌, ◌++◌, length, codes, refl, ap, sym, ◌∙◌, subst, arith}
 use Rattle.std.specs.declared.cmp.Ordering.{Ordering}
 use Rattle.std.specs.declared.cmp.Ordering.TheVariants.{Less, Equal, Greater}
 use Rattle.std.specs.Ordering.{match_ordering}
 use Rattle.std.specs.BTreeSet.{insert_key}
 use Rattle.vd_store.specs.Texts.{name_order}
-use Rattle.vd_app.specs.Limits.{Joins, JoinAll, HasFewNames, HasManyNames, PassesOver, bytes_of, byte_limit, name_limit}
-use Rattle.vd_app.specs.Submission.{IsHeaded, IsHeadless}
+use Rattle.vd_app.specs.Limits.{Joins, JoinAll, HasFewNames, PassesOver, bytes_of, byte_limit, name_limit}
 use Rattle.vd_app.proofs.Submitting.{one_headed}
 
 pub bytes_append : (xs ys : List (List ℕ)) → bytes_of (xs ++ ys) ≡ bytes_of xs + bytes_of ys

@@ -17,6 +17,12 @@ read_more held [] (t ∷ texts) file text all one short = absurd all
 read_more held (f ∷ files) [] file text all one short = absurd all
 read_more held (f ∷ files) (t ∷ texts) file text all one short = (all.0, all.1, read_more held files texts file text all.2 one short)
 
+pub read_length : (held : List ℕ → Holding) (files texts : List (List ℕ)) → AreRead held files texts → length files ≡ length texts
+read_length held [] [] all = refl
+read_length held [] (t ∷ texts) all = absurd all
+read_length held (f ∷ files) [] all = absurd all
+read_length held (f ∷ files) (t ∷ texts) all = let rest = read_length held files texts all.2 in omega (arith, rest)
+
 -- texts that the shelf tells are those that were read
 pub held_read : (held : List ℕ → Holding) (files told texts : List (List ℕ)) → AreHeld held files told → AreRead held files texts → told ≡ texts
 held_read held [] [] [] tells all = refl

@@ -1,19 +1,15 @@
 -- How a run's call ends.
-use Rattle.std.proofs.Common.{◌≡◌, inl, inr, ℕ, Bool, true, List, [], ◌∷◌, Option, Some, None, All, refl, sym, ◌∙◌, subst}
-use Rattle.vd_clight.specs.declared.program.Program.{Program}
+use Rattle.std.proofs.Common.{◌≡◌, inl, inr, ℕ, List, ◌∷◌, Some, All, sym, subst}
 use Rattle.vd_link.specs.Form.{IsPlainText}
-use Rattle.vd_link.specs.Program.{Defines}
 use Rattle.vd_machine.specs.declared.answer.Turn.{Turn}
-use Rattle.vd_schedule.specs.Schedule.{IsSchedule, IsMalformedAt}
-use Rattle.vd_app.specs.Answer.{Answer, IsPlayed, Plays, written_text}
-use Rattle.vd_app.specs.Call.{IsAnswered, Means}
-use Rattle.vd_app.specs.Command.{Command, Play, command_of, files_of}
+use Rattle.vd_schedule.specs.Schedule.{IsMalformedAt}
+use Rattle.vd_app.specs.Answer.{Answer, Plays, written_text}
+use Rattle.vd_app.specs.Call.{Means}
+use Rattle.vd_app.specs.Command.{Command, Play, command_of}
 use Rattle.vd_app.specs.Gathering.{IsRunRead, IsSoleSchedule}
-use Rattle.vd_app.specs.Limits.{IsWithin}
-use Rattle.vd_app.specs.Reading.{AreRead, PassesLimit}
 use Rattle.vd_app.specs.Seen.{ShelfSeen, SinkSeen, IsUntouched}
 use Rattle.vd_app.specs.Steps.{Finishes, ReadStops}
-use Rattle.vd_app.specs.Submission.{Entries, IsHeaded, Submits, IsFirstHeadlessAt}
+use Rattle.vd_app.specs.Submission.{IsHeaded}
 use Rattle.vd_app.specs.Wellformed.{IsFirstHeadless, IsWellFormed}
 use Rattle.vd_app.specs.declared.ending.Ending.{Ending}
 use Rattle.vd_app.specs.declared.ending.Ending.TheVariants as ending

@@ -1,11 +1,11 @@
 -- What a schedule that was read is.
-use Rattle.std.proofs.Common.{◌≡◌, inl, inr, ℕ, List, Result, Ok, Err, IfOk, IfErr, IsErrAnd, MatchResult, refl, sym, ◌∙◌, subst}
+use Rattle.std.proofs.Common.{◌≡◌, inl, inr, ℕ, List, Result, Ok, Err, IfOk, IfErr, IsErrAnd, MatchResult, sym, ◌∙◌, subst}
 use Rattle.vd_base.specs.Shelf.{Holding}
 use Rattle.vd_machine.specs.declared.answer.Turn.{Turn}
 use Rattle.vd_schedule.specs.Schedule.{IsSchedule, HasTooMany, IsMalformedAt, IsMemory, IsOrMemory}
 use Rattle.vd_schedule.specs.declared.schedule.ScheduleFault.{ScheduleFault}
 use Rattle.vd_schedule.specs.declared.schedule.ScheduleFault.TheVariants.{TooMany, Bad}
-use Rattle.vd_app.specs.Gathering.{IsScheduleOf, IsSoleSchedule, TurnsStop}
+use Rattle.vd_app.specs.Gathering.{IsScheduleOf, TurnsStop}
 use Rattle.vd_app.specs.Reading.{IsRead}
 use Rattle.vd_app.specs.Seen.{ShelfSeen}
 use Rattle.vd_app.specs.Steps.{ReadStops}

@@ -1,5 +1,5 @@
 -- What putting texts one after another leaves.
-use Rattle.std.proofs.Common.{suc, zero, ◌≡◌, ◌↔◌, ℕ, ◌+◌, List, [], ◌∷◌, ◌++◌, take, slice_get, Some, None, refl, ap, sym, ◌∙◌, subst, inl, inr}
+use Rattle.std.proofs.Common.{suc, zero, ◌≡◌, ◌↔◌, ℕ, ◌+◌, List, [], ◌∷◌, take, slice_get, Some, None, refl, ap, sym, ◌∙◌, subst, inl, inr}
 use Rattle.std.specs.declared.cmp.Ordering.{Ordering}
 use Rattle.std.specs.declared.cmp.Ordering.TheVariants.{Less, Equal, Greater}
 use Rattle.std.specs.Ordering.{match_ordering}

@@ -3,7 +3,7 @@ use Rattle.std.specs.Prelude.{◌≡◌, ◌≤◌, ℕ, List, [], ◌∷◌, le
 use Rattle.vd_machine.specs.declared.answer.Turn.{Turn}
 use Rattle.vd_schedule.specs.Schedule.{IsSchedule, IsMalformedAt, HasTooMany, turn_limit}
 use Rattle.vd_app.specs.Answer.{Answer}
-use Rattle.vd_app.specs.Command.{Bytes, CommandLine, Command, Play, command_of}
+use Rattle.vd_app.specs.Command.{Bytes, CommandLine, Play, command_of}
 use Rattle.vd_app.specs.Limits.{IsWithin, JoinAll, PassesOver, bytes_of, byte_limit, name_limit}
 use Rattle.vd_app.specs.Reading.{AreRead}
 use Rattle.vd_app.specs.Seen.{ShelfSeen}

@@ -87,7 +87,7 @@ fn play_texts(
     }
     let snapshot = match submitted(alloc, texts)? {
         Some(snapshot) => snapshot,
-        None => return Err(AllocError),
+        None => unreachable!(),
     };
     let program = program(alloc, &snapshot, link)?;
     let played = play_program(alloc, &program, turns)?;

@@ -4,7 +4,6 @@ use Rattle.vd_base.specs.declared.ctype.Field.{Field}
 use Rattle.vd_clight.specs.declared.program.CScope.{CScope}
 use Rattle.vd_clight.specs.declared.program.Init.{Init}
 use Rattle.vd_clight.specs.declared.syntax.FnText.{FnText}
-use Rattle.vd_cparse.specs.declared.parts.Decl.{Decl}
 use Rattle.vd_cparse.specs.declared.parts.Decl.TheVariants as decl
 use Rattle.vd_cparse.specs.Section.{AnswersDecl, IsFnSection}
 use Rattle.vd_form.specs.Sections.{IsNames, IsSpecification, line}

@@ -1,6 +1,6 @@
 -- Which interfaces texts reach, and in which order: a text's exports, then its uses, each at its first mention, followed by those that
 -- it uses. After Verified Software Units, where a unit sees what it imports and exports.
-use Rattle.std.specs.Prelude.{◌≡◌, ℕ, Bool, true, false, List, [], ◌∷◌, ◌++◌, map, flat_map, Option, None, Some}
+use Rattle.std.specs.Prelude.{◌≡◌, Bool, true, false, List, [], ◌∷◌, ◌++◌, map, flat_map, Option, None, Some}
 use Rattle.std.specs.List.{filter, list_any}
 use Rattle.std.specs.Str.{bytes_eq}
 use Rattle.vd_outline.specs.declared.outline.Outline.{Outline}

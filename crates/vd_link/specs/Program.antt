@@ -4,7 +4,6 @@ use Rattle.vd_base.specs.declared.ctype.Field.{Field}
 use Rattle.vd_base.specs.Layout.{size_of}
 use Rattle.vd_clight.specs.declared.program.CScope.{CScope}
 use Rattle.vd_clight.specs.declared.program.GlobalDef.{GlobalDef}
-use Rattle.vd_clight.specs.declared.program.Init.{Init}
 use Rattle.vd_clight.specs.declared.program.Program.{Program}
 use Rattle.vd_clight.specs.declared.syntax.FnText.{FnText}
 use Rattle.vd_clight.specs.declared.typed.TypedFn.{TypedFn}

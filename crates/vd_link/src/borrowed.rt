@@ -1,7 +1,7 @@
 //! What other crates read, as linking takes it. All that is still to come from them stands here and nowhere else: the definitions
 //! beside it say the same.
 
-ghost use Rattle.std.specs.Prelude.{◌≡◌, ◌↔◌, IfOk, IsTrue, MatchOption, MatchResult, List as Items, ℕ};
+ghost use Rattle.std.specs.Prelude.{◌↔◌, IfOk, IsTrue, MatchOption, MatchResult};
 ghost use Rattle.vd_clight.specs.declared.program.CScope.{CScope as CScope_of_parts};
 ghost use Rattle.vd_outline.specs.declared.section.SectionKind.TheVariants as kind;
 ghost use Rattle.vd_link.specs.Borrowed.{HasScope, IsListing, IsListingFault, IsLogic};

@@ -1,4 +1,4 @@
-use Rattle.std.proofs.Common.{◌≡◌, ◌↔◌, arith}
+use Rattle.std.proofs.Common.{◌≡◌, ◌↔◌}
 use Rattle.vd_app.specs.Submission.{Entries, Submits}
 use Rattle.vd_app.proofs.Outcomes.{checks_found}
 use Rattle.vd_app.proofs.check.outcome_of.Goals as goal
