@@ -18,7 +18,7 @@ IsMalformed (Check link files) texts file line = ⊥
 IsMalformed (Play link schedule files) [] file line = ⊥
 IsMalformed (Play link schedule files) (turns ∷ texts) file line =
     ((file ≡ schedule) × IsMalformedAt turns line)
-    ⊎ (((schedule : List Turn) × IsSchedule turns schedule) × (line ≡ 1) × IsFirstHeadless files texts file)
+    ⊎ (((made : List Turn) × IsSchedule turns made) × (line ≡ 1) × IsFirstHeadless files texts file)
 IsMalformed Unbuilt texts file line = ⊥
 
 -- no file is outside its grammar

@@ -3,7 +3,7 @@
 
 ghost use Rattle.std.specs.Prelude.{◌↔◌, IfOk, IsTrue, MatchOption, MatchResult};
 ghost use Rattle.vd_clight.specs.declared.program.CScope.{CScope as CScope_of_parts};
-ghost use Rattle.vd_outline.specs.declared.section.SectionKind.TheVariants as kind;
+ghost use Rattle.vd_outline.specs.declared.section.SectionKind.TheVariants as section_kind;
 ghost use Rattle.vd_link.specs.Borrowed.{HasScope, IsListing, IsListingFault, IsLogic};
 
 use std::alloc::{AllocError, Global};
@@ -15,7 +15,7 @@ use vd_outline::SectionKind;
 /// The names that a `units` section lists; else where it is outside its grammar. Until a reader of names tells places, a section that is
 /// outside it is want of memory.
 pub(crate) fn units_in(alloc: Global, section: &Text) -> Result<Result<List<Name>, u32>, AllocError>
-    ensures { IfOk result (λ answer. MatchResult answer (λ names. IsListing kind.Units section.now names) (λ place. IsListingFault section.now place)) }
+    ensures { IfOk result (λ answer. MatchResult answer (λ names. IsListing section_kind.Units section.now names) (λ place. IsListingFault section.now place)) }
 {
     match read_names(alloc, section)? {
         Some(names) => Ok(Ok(names)),
