@@ -5,6 +5,7 @@ pub mod Declaration
 pub mod Form
 pub mod Index
 pub mod Program
+pub mod Results
 pub mod Shape
 pub mod Table
 pub mod Texts

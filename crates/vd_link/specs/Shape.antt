@@ -2,9 +2,11 @@
 use Rattle.std.specs.Prelude.{◌≡◌, true, false, List, [], ◌∷◌}
 use Rattle.vd_outline.specs.declared.outline.Outline.{Outline}
 use Rattle.vd_outline.specs.declared.outline.TextKind.TheVariants.{Unit as UnitText, Link}
+use Rattle.vd_outline.specs.declared.section.Section.{Section}
 use Rattle.vd_outline.specs.declared.section.SectionKind.TheVariants as section
 use Rattle.vd_outline.specs.Outline.{Bytes}
-use Rattle.vd_link.specs.Closure.{has_name, Lists, Reach, Interfaces}
+use Rattle.vd_link.specs.Borrowed.{IsListing}
+use Rattle.vd_link.specs.Closure.{has_name, Reach, Interfaces}
 use Rattle.vd_link.specs.Form.{Entry}
 use Rattle.vd_link.specs.Texts.{IsOutlined, IsMissing}
 
@@ -12,7 +14,9 @@ use Rattle.vd_link.specs.Texts.{IsOutlined, IsMissing}
 pub record IsLink (texts : List Entry) (link : Bytes) (names : List Bytes) : Type 0 where
   pub outline : Outline
   pub outlined : IsOutlined texts Link link outline
-  pub listed : Lists section.Units outline names
+  pub section_is : Section
+  pub alone : outline.sections ≡ section_is ∷ []
+  pub listed : IsListing section.Units section_is.text names
 
 -- the units that have an outline, of names of which each counts once, in order, behind names met before
 pub data Units (texts : List Entry) : List Bytes → List Bytes → List Outline → Type 0 where

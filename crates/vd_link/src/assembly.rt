@@ -1,6 +1,7 @@
 //! The program of a link.
 
-ghost use Rattle.std.specs.Prelude.{IfOk};
+ghost use Rattle.std.specs.Prelude.{◌≡◌, ◌≤◌, ◌^◌, ℕ, Some, slice_get, codes, IfOk, MatchOption};
+ghost use Rattle.vd_clight.specs.declared.typed.TypedFn.{TypedFn as Typed_function};
 ghost use Rattle.vd_link.specs.Form.{ArePlain};
 ghost use Rattle.vd_link.specs.Program.{Defines};
 
@@ -16,7 +17,10 @@ use vd_outline::Outline;
 use vd_store::Snapshot;
 
 /// The number of the function main.
-fn main_number(fns: &[TypedFn]) -> Option<u32> {
+fn main_number(fns: &[TypedFn]) -> Option<u32>
+    ensures { MatchOption result ((n : ℕ) (f : Typed_function) → slice_get fns.now n ≡ Some f → f.name ≡ codes "main" → 2 ^ 32 ≤ n)
+        (λ n. (f : Typed_function) × (slice_get fns.now n ≡ Some f) × (f.name ≡ codes "main")) }
+{
     for (number, f) in fns.iter().enumerate() {
         if f.name.as_bytes() == b"main".as_slice() {
             return u32::try_from(number).ok();

@@ -1,5 +1,17 @@
 //! The functions and globals of a unit.
 
+ghost use Rattle.std.specs.Prelude.{◌≡◌, ◌++◌, ◌∷◌, [], true, false, List as Items, IfOk, MatchOption, Ok, Some};
+ghost use Rattle.vd_base.specs.declared.ctype.Field.{Field as Field_of_global};
+ghost use Rattle.vd_base.specs.Layout.{size_of};
+ghost use Rattle.vd_clight.specs.declared.program.GlobalDef.{GlobalDef as Global_of_unit};
+ghost use Rattle.vd_clight.specs.declared.syntax.FnText.{FnText as Function_text};
+ghost use Rattle.vd_clight.specs.declared.typed.TypedFn.{TypedFn as Typed_function};
+ghost use Rattle.vd_ctyping.specs.Function.{typed_function};
+ghost use Rattle.vd_link.specs.Borrowed.{IsFunction, IsGlobal};
+ghost use Rattle.vd_link.specs.Closure.{head_part, Reach};
+ghost use Rattle.vd_link.specs.Form.{Entry};
+ghost use Rattle.vd_link.specs.Program.{IsUnitCode};
+
 use crate::borrowed::scope_of;
 use std::alloc::{AllocError, Global};
 use vd_base::{List, Text};
@@ -25,7 +37,11 @@ impl Code {
 }
 
 /// The typed function of a section; none where it is not read or not typed.
-fn typed(alloc: Global, scope: &CScope, section: &Text) -> Result<Option<TypedFn>, AllocError> {
+fn typed(alloc: Global, scope: &CScope, section: &Text) -> Result<Option<TypedFn>, AllocError>
+    ensures { IfOk result (λ found. MatchOption found
+        ((f : Function_text) (t : Typed_function) → IsFunction section.now f → typed_function scope.now f ≡ Ok t → ⊥)
+        (λ t. (f : Function_text) × IsFunction section.now f × (typed_function scope.now f ≡ Ok t))) }
+{
     let function = match parse_section(alloc, section) {
         Ok(function) => function,
         Err(ParseFault::Memory) => return Err(AllocError),
@@ -39,7 +55,11 @@ fn typed(alloc: Global, scope: &CScope, section: &Text) -> Result<Option<TypedFn
 }
 
 /// The global of a section; none where it is not read, or its type has no size.
-fn defined(alloc: Global, scope: &CScope, section: &Text) -> Result<Option<GlobalDef>, AllocError> {
+fn defined(alloc: Global, scope: &CScope, section: &Text) -> Result<Option<GlobalDef>, AllocError>
+    ensures { IfOk result (λ found. MatchOption found
+        ((field : Field_of_global) (g : Global_of_unit) → IsGlobal section.now field g.init → g.name ≡ field.name → size_of scope.now.structs field.typ ≡ Some g.cells → ⊥)
+        (λ g. (field : Field_of_global) × IsGlobal section.now field g.init × (g.name ≡ field.name) × (size_of scope.now.structs field.typ ≡ Some g.cells))) }
+{
     match parse_decl(alloc, section) {
         Ok(Decl::Global(field, init)) => match scope.structs.size(&field.typ) {
             Some(cells) => Ok(Some(GlobalDef {
@@ -106,7 +126,9 @@ fn is_head_section(kind: SectionKind) -> bool {
 }
 
 /// The head part of a text: its head line and its head sections.
-fn head_part(alloc: Global, outline: &Outline) -> Result<Text, AllocError> {
+fn head_part(alloc: Global, outline: &Outline) -> Result<Text, AllocError>
+    ensures { IfOk result (λ part. part ≡ head_part outline.now) }
+{
     let word: &[u8] = match outline.kind {
         TextKind::Interface => b"interface ",
         TextKind::Unit => b"unit ",
@@ -125,7 +147,11 @@ fn head_part(alloc: Global, outline: &Outline) -> Result<Text, AllocError> {
 
 /// Adds the functions and globals of a unit that reaches no interface; false where its head part fails a condition, a function is not read
 /// or not typed, or a global has no size.
-pub(crate) fn add_unit(alloc: Global, unit: &Outline, code: &mut Code) -> Result<bool, AllocError> {
+pub(crate) fn add_unit(alloc: Global, unit: &Outline, code: &mut Code) -> Result<bool, AllocError>
+    ensures added { IfOk result (λ added. added ≡ true → (texts : Items Entry) → Reach texts (unit.now ∷ []) [] → (ts : Items Typed_function) × (gs : Items Global_of_unit)
+        × IsUnitCode texts unit.now ts gs × (code.new.fns ≡ code.old.fns ++ ts) × (code.new.globals ≡ code.old.globals ++ gs)) }
+    ensures none { IfOk result (λ added. added ≡ false → (texts : Items Entry) → Reach texts (unit.now ∷ []) [] → (ts : Items Typed_function) (gs : Items Global_of_unit) → IsUnitCode texts unit.now ts gs → ⊥) }
+{
     let mut parts = List::new(alloc);
     parts.push(head_part(alloc, unit)?)?;
     let scope = match scope_of(alloc, &parts)? {

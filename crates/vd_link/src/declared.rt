@@ -1,5 +1,8 @@
 //! What units declare, and what is declared twice. No unit exports an interface, so no declaration is a definition of another.
 
+ghost use Rattle.std.specs.Prelude.{◌↔◌, [], ℕ, List as Items, IfOk, IsTrue, MatchOption};
+ghost use Rattle.vd_link.specs.Declaration.{Declaration as Declared_in, DeclareAll, IsFirstTwice, IsRead};
+
 use crate::borrowed::is_logic;
 use std::alloc::{AllocError, Global};
 use std::collections::BTreeMap;
@@ -24,7 +27,9 @@ fn space_of(kind: SectionKind) -> Option<u8> {
 }
 
 /// Whether a section that declares is read.
-fn is_read(alloc: Global, section: &Section) -> Result<bool, AllocError> {
+fn is_read(alloc: Global, section: &Section) -> Result<bool, AllocError>
+    ensures { IfOk result (λ read. IsTrue read ↔ IsRead section.now.kind section.now.text) }
+{
     match section.kind {
         SectionKind::Struct | SectionKind::Global => match parse_decl(alloc, &section.text) {
             Ok(Decl::Struct(_, _)) => Ok(section.kind == SectionKind::Struct),
@@ -110,7 +115,10 @@ fn owners_of<'u>(
 pub(crate) fn declared_twice(
     alloc: Global,
     units: &List<Outline>,
-) -> Result<Option<Name>, AllocError> {
+) -> Result<Option<Name>, AllocError>
+    ensures { IfOk result (λ found. (all : Items Declared_in) → DeclareAll units.now all
+        → MatchOption found ((name : Items ℕ) → IsFirstTwice units.now [] all name → ⊥) (IsFirstTwice units.now [] all)) }
+{
     let declarations = declarations(alloc, units.as_slice())?;
     let owners = owners_of(alloc, declarations.as_slice())?;
     for d in declarations.as_slice() {

@@ -1,8 +1,11 @@
 //! The link conditions, in their order, as far as the form of texts asks them: without interfaces no condition on those can fail.
 
-ghost use Rattle.std.specs.Prelude.{◌≡◌, ℕ, List as Items, IfOk, MatchOption};
+ghost use Rattle.std.specs.Prelude.{◌≡◌, ℕ, [], List as Items, IfOk, MatchOption};
 ghost use Rattle.vd_link.specs.Conditions.{IsFirstFailure, IsLinked, printed};
-ghost use Rattle.vd_link.specs.Form.{ArePlain};
+ghost use Rattle.vd_link.specs.Form.{ArePlain, Entry};
+ghost use Rattle.vd_link.specs.Index.{IsIndexOf};
+ghost use Rattle.vd_link.specs.Results.{FailsSo, LinkedTo};
+ghost use Rattle.vd_link.specs.Shape.{HasShape};
 
 use crate::declared::declared_twice;
 use crate::failure::{bare, of_name};
@@ -19,7 +22,11 @@ pub(crate) fn linked(
     alloc: Global,
     index: &Index<'_>,
     link: &Name,
-) -> Result<Linked<List<Outline>>, AllocError> {
+) -> Result<Linked<List<Outline>>, AllocError>
+    ensures { IfOk result (λ linked. (entries : Items Entry) → IsIndexOf entries index.now → ArePlain entries
+        → LinkedTo linked (λ units. IsLinked entries link.now × ((names : Items (Items ℕ)) × HasShape entries link.now names units [] []))
+            (λ text. (condition : ℕ) × (words : Items (Items ℕ)) × IsFirstFailure entries link.now condition words × FailsSo condition words text)) }
+{
     let units = match units_of(alloc, index, link)? {
         Linked::Holds(units) => units,
         Linked::Fails(text) => return Ok(Linked::Fails(text)),

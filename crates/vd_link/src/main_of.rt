@@ -1,5 +1,8 @@
 //! The function main of units.
 
+ghost use Rattle.std.specs.Prelude.{◌↔◌, IfOk, IsTrue};
+ghost use Rattle.vd_link.specs.Conditions.{HasOneMain};
+
 use std::alloc::{AllocError, Global};
 use vd_base::{CType, List};
 use vd_clight::FnText;
@@ -24,7 +27,9 @@ fn is_main(function: &FnText) -> bool {
 }
 
 /// Whether just one of the units has a function main, and it is `int main ( void )`.
-pub(crate) fn has_one_main(alloc: Global, units: &List<Outline>) -> Result<bool, AllocError> {
+pub(crate) fn has_one_main(alloc: Global, units: &List<Outline>) -> Result<bool, AllocError>
+    ensures { IfOk result (λ one. IsTrue one ↔ HasOneMain units.now) }
+{
     let mut found = None;
     for unit in units.as_slice() {
         if let Some(function) = main_in(alloc, unit)? {

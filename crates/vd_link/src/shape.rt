@@ -1,5 +1,12 @@
 //! What a link lists.
 
+ghost use Rattle.std.specs.Prelude.{◌≡◌, ℕ, ◌-◌, ◌^◌, min, List as Items, [], ◌∷◌, IfOk, MatchResult};
+ghost use Rattle.vd_link.specs.Conditions.{IsFirstFailure, IsFirstOther, IsLinkFault};
+ghost use Rattle.vd_link.specs.Form.{Entry};
+ghost use Rattle.vd_link.specs.Index.{IsIndexOf};
+ghost use Rattle.vd_link.specs.Results.{FailsSo, LinkedTo};
+ghost use Rattle.vd_link.specs.Shape.{IsLink, Units};
+
 use crate::borrowed::units_in;
 use crate::failure::{at_place, of_name};
 use crate::texts::Index;
@@ -42,7 +49,10 @@ pub(crate) fn listed(
     alloc: Global,
     index: &Index<'_>,
     link: &Name,
-) -> Result<Result<List<Name>, u32>, AllocError> {
+) -> Result<Result<List<Name>, u32>, AllocError>
+    ensures { IfOk result (λ answer. (entries : Items Entry) → IsIndexOf entries index.now
+        → MatchResult answer (λ names. IsLink entries link.now names) (λ place. (at : ℕ) × IsLinkFault entries link.now at × (place ≡ min at (2 ^ 32 - 1)))) }
+{
     let Some(text) = index.text(link.as_bytes()) else {
         return Ok(Err(0));
     };
@@ -70,7 +80,10 @@ fn units_named(
     alloc: Global,
     index: &Index<'_>,
     names: &List<Name>,
-) -> Result<Linked<List<Outline>>, AllocError> {
+) -> Result<Linked<List<Outline>>, AllocError>
+    ensures { IfOk result (λ linked. (entries : Items Entry) → IsIndexOf entries index.now
+        → LinkedTo linked (Units entries [] names.now) (λ text. (name : Items ℕ) × IsFirstOther entries names.now name × FailsSo 2 (name ∷ []) text)) }
+{
     let repeated = repeated(alloc, names.as_slice())?;
     let mut units = List::new(alloc);
     for name in names.as_slice() {
@@ -90,7 +103,11 @@ pub(crate) fn units_of(
     alloc: Global,
     index: &Index<'_>,
     link: &Name,
-) -> Result<Linked<List<Outline>>, AllocError> {
+) -> Result<Linked<List<Outline>>, AllocError>
+    ensures { IfOk result (λ linked. (entries : Items Entry) → IsIndexOf entries index.now
+        → LinkedTo linked (λ units. (names : Items (Items ℕ)) × IsLink entries link.now names × Units entries [] names units)
+            (λ text. (condition : ℕ) × (words : Items (Items ℕ)) × IsFirstFailure entries link.now condition words × FailsSo condition words text)) }
+{
     match listed(alloc, index, link)? {
         Ok(names) => units_named(alloc, index, &names),
         Err(place) => Ok(Linked::Fails(at_place(alloc, 1, place)?)),
