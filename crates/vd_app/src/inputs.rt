@@ -33,11 +33,7 @@ pub enum Schedule {
 }
 
 /// The schedule that the bytes of a file hold.
-fn schedule_of<'a>(
-    alloc: Global,
-    bytes: &[u8],
-    file: &'a str,
-) -> Result<Schedule, ReadFault<'a>>
+fn schedule_of<'a>(alloc: Global, bytes: &[u8], file: &'a str) -> Result<Schedule, ReadFault<'a>>
     ensures { MatchResult result (IsScheduleOf bytes.now) (TurnsStop bytes.now file.now) }
 {
     match parse_schedule(alloc, bytes) {

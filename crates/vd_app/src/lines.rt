@@ -80,10 +80,7 @@ fn end_line(alloc: Global, end: End) -> Result<Text, AllocError>
     }
 }
 
-fn race_line(
-    alloc: Global,
-    race: Option<(u32, u32, u32, Spot)>,
-) -> Result<Text, AllocError>
+fn race_line(alloc: Global, race: Option<(u32, u32, u32, Spot)>) -> Result<Text, AllocError>
     ensures { IfOk result (λ line. line ≡ race_line race) }
 {
     match race {

@@ -100,7 +100,10 @@ fn put_played<'a, K: Sink>(alloc: Global, played: &Played, out: &mut K) -> Endin
         (record { written = K.written out.old; written_after = K.written out.new; faults = K.faults out.old; faults_after = K.faults out.new }) result }
     ensures faults { K.faults out.old ≤ K.faults out.new }
 {
-    finish(put_lines(alloc, out, played.lines.as_slice()), played.success)
+    finish(
+        put_lines(alloc, out, played.lines.as_slice()),
+        played.success,
+    )
 }
 
 /// Runs the link's program under a schedule, where the texts are in the form.

@@ -56,11 +56,7 @@ fn whole_of(alloc: Global, code: Code) -> Result<Option<Program>, AllocError> {
 
 /// The program of the link over the texts; none exactly where a link condition from 1 to 7 fails, a function is not read or not typed,
 /// or the program is not whole.
-pub fn program(
-    alloc: Global,
-    texts: &Snapshot,
-    link: &Name,
-) -> Result<Option<Program>, AllocError>
+pub fn program(alloc: Global, texts: &Snapshot, link: &Name) -> Result<Option<Program>, AllocError>
     requires { ArePlain texts.now.texts }
     ensures { IfOk result (Defines texts.now.texts link.now) }
 {

@@ -25,7 +25,7 @@ pub(crate) fn linked(
 ) -> Result<Linked<List<Outline>>, AllocError>
     ensures { IfOk result (λ linked. (entries : Items Entry) → IsIndexOf entries index.now → ArePlain entries
         → LinkedTo linked (λ units. IsLinked entries link.now × ((names : Items (Items ℕ)) × HasShape entries link.now names units [] []))
-            (λ text. (condition : ℕ) × (words : Items (Items ℕ)) × IsFirstFailure entries link.now condition words × FailsSo condition words text)) }
+        (λ text. (condition : ℕ) × (words : Items (Items ℕ)) × IsFirstFailure entries link.now condition words × FailsSo condition words text)) }
 {
     let units = match units_of(alloc, index, link)? {
         Linked::Holds(units) => units,
@@ -41,11 +41,7 @@ pub(crate) fn linked(
 }
 
 /// The first of the link conditions 1 to 7 that fails, as it is printed; none where they hold.
-pub fn conditions(
-    alloc: Global,
-    texts: &Snapshot,
-    link: &Name,
-) -> Result<Option<Text>, AllocError>
+pub fn conditions(alloc: Global, texts: &Snapshot, link: &Name) -> Result<Option<Text>, AllocError>
     requires { ArePlain texts.now.texts }
     ensures { IfOk result (λ found. MatchOption found (IsLinked texts.now.texts link.now)
         (λ text. (condition : ℕ) × (words : Items (Items ℕ)) × IsFirstFailure texts.now.texts link.now condition words × (text ≡ printed condition words))) }

@@ -106,7 +106,7 @@ pub(crate) fn units_of(
 ) -> Result<Linked<List<Outline>>, AllocError>
     ensures { IfOk result (λ linked. (entries : Items Entry) → IsIndexOf entries index.now
         → LinkedTo linked (λ units. (names : Items (Items ℕ)) × IsLink entries link.now names × Units entries [] names units)
-            (λ text. (condition : ℕ) × (words : Items (Items ℕ)) × IsFirstFailure entries link.now condition words × FailsSo condition words text)) }
+        (λ text. (condition : ℕ) × (words : Items (Items ℕ)) × IsFirstFailure entries link.now condition words × FailsSo condition words text)) }
 {
     match listed(alloc, index, link)? {
         Ok(names) => units_named(alloc, index, &names),

@@ -169,7 +169,8 @@ fn is_whole_statement(names: &Names<'_>, temps: usize, s: &TStmt) -> bool
         TStmt::Skip => true,
         TStmt::Set(x, e) => (*x as usize) < temps && is_whole_expression(names, temps, e),
         TStmt::Load(x, l) => (*x as usize) < temps && is_whole_place(names, temps, l),
-        TStmt::Store(l, e) => is_whole_place(names, temps, l) && is_whole_expression(names, temps, e),
+        TStmt::Store(l, e) => is_whole_place(names, temps, l)
+            && is_whole_expression(names, temps, e),
         TStmt::Call(x, f, es) => {
             is_whole_target(temps, *x)
                 && names.takes(f.as_bytes(), es.len())
