@@ -5,7 +5,7 @@ use Rattle.vd_logic.specs.declared.term.Op.{Op}
 use Rattle.vd_logic.specs.declared.term.Sort.{Sort}
 use Rattle.vd_logic.specs.declared.term.Term.{Term, Num, Var, Named, Global, App}
 use Rattle.vd_logic.specs.Nodes.{term_nodes, nodes_layer}
-use Rattle.vd_logic.proofs.Layers.{fold-Num, fold-Var, fold-Named, fold-Global, fold-App}
+use Rattle.vd_logic.specs.Layers.{fold-Num, fold-Var, fold-Named, fold-Global, fold-App}
 
 pub term_nodes-App : (op : Op) (args : List Term) → term_nodes (App op args) ≡ suc (sum (map term_nodes args))
 unfolding term_nodes

@@ -1,3 +1,2 @@
-mod Layers
 mod Substituting
 mod Counting

@@ -5,7 +5,7 @@ use Rattle.vd_logic.specs.declared.term.Op.{Op}
 use Rattle.vd_logic.specs.declared.term.Sort.{Sort}
 use Rattle.vd_logic.specs.declared.term.Term.{Term, Num, Var, Named, Global, App}
 use Rattle.vd_logic.specs.Substitution.{substituted, substituted_layer}
-use Rattle.vd_logic.proofs.Layers.{fold-Num, fold-Var, fold-Named, fold-Global, fold-App}
+use Rattle.vd_logic.specs.Layers.{fold-Num, fold-Var, fold-Named, fold-Global, fold-App}
 
 module _ (terms : List Term) where
   pub substituted-Num : (n : ℤ) → substituted terms (Num n) ≡ Num n

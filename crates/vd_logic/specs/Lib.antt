@@ -1,3 +1,4 @@
+pub mod Layers
 pub mod Nodes
 pub mod Parts
 pub mod Substitution

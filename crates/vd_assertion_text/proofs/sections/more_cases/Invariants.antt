@@ -1,0 +1,11 @@
+use Rattle.std.proofs.Common.{◌≡◌, length, ◌≤◌}
+use Rattle.vd_grammar.specs.Outcome.{with_front}
+use Rattle.vd_logic_grammar.specs.Grammar.{MoreCases}
+use Rattle.vd_logic_grammar.specs.Read.{read}
+use Rattle.vd_assertion_text.proofs.sections.more_cases.Given as goal
+
+abbrev pub invariant-found : goal.invariant-found
+invariant-found l = (with_front l.found (read MoreCases l.tokens) ≡ with_front l.fn.first (read MoreCases l.fn.tokens)) × (length l.tokens ≤ length l.fn.tokens)
+
+abbrev pub decreases-found : goal.decreases-found
+decreases-found l = length l.tokens

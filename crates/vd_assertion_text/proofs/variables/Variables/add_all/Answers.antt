@@ -1,0 +1,15 @@
+use Rattle.std.proofs.Common.{sym, ap, subst, ◌++◌, ◌∙◌}
+use Rattle.std.proofs.lemmas.List.{append-nil, take_all}
+use Rattle.vd_assertion_text.specs.Lookup.{Stands}
+use Rattle.vd_assertion_text.proofs.Declaring.{stands_more}
+use Rattle.vd_assertion_text.proofs.variables.Variables.add_all.Goals as goal
+
+pub names-init : goal.names-init
+names-init c = λ before h. subst (Stands c.args.self.now) (sym (append-nil before)) h
+
+pub names-preserved : goal.names-preserved
+names-preserved c = λ before h. stands_more c.names.self c.add.new.self before c.args.names.now c.names.name-index _ c.as_bytes.result.now _ c.names-test.true c.as_bytes.ensures.value _ (c.names.invariant before h)
+    c.in_ok-add.ensures.names c.in_ok-add.ensures.count
+
+pub returns : goal.returns
+returns c = λ before h. subst (λ x. Stands c.names.self (before ++ x)) (take_all c.names.name-index c.args.names.now c.names-test.false) (c.names.invariant before h)

@@ -1,0 +1,118 @@
+//! Terms and types that are made of the parts of a rule.
+
+ghost use Rattle.std.specs.Prelude.{◌≡◌, [], ◌∷◌, IfOk};
+ghost use Rattle.vd_logic.specs.declared.term.Term.{App};
+ghost use Rattle.vd_logic_grammar.specs.Syntax as syntax;
+
+use std::alloc::{AllocError, Global};
+use vd_base::{CType, List};
+use vd_logic::{Op, Rel, Sort, Term};
+use vd_logic_grammar::Kind;
+
+/// An operation of one term.
+pub(crate) fn one(alloc: Global, op: Op, a: Term) -> Result<Term, AllocError>
+    ensures { IfOk result (λ t. t ≡ App op (a ∷ [])) }
+{
+    let mut args = List::new(alloc);
+    args.push(a)?;
+    Ok(Term::App(op, args))
+}
+
+/// An operation of two terms.
+pub(crate) fn two(alloc: Global, op: Op, a: Term, b: Term) -> Result<Term, AllocError>
+    ensures { IfOk result (λ t. t ≡ App op (a ∷ b ∷ [])) }
+{
+    let mut args = List::new(alloc);
+    args.push(a)?;
+    args.push(b)?;
+    Ok(Term::App(op, args))
+}
+
+/// An operation of three terms.
+pub(crate) fn three(
+    alloc: Global,
+    op: Op,
+    a: Term,
+    b: Term,
+    third: Term,
+) -> Result<Term, AllocError>
+    ensures { IfOk result (λ t. t ≡ App op (a ∷ b ∷ third ∷ [])) }
+{
+    let mut args = List::new(alloc);
+    args.push(a)?;
+    args.push(b)?;
+    args.push(third)?;
+    Ok(Term::App(op, args))
+}
+
+/// A product, and what is added to it or taken from it, from left to right.
+pub(crate) fn summed(
+    alloc: Global,
+    first: Term,
+    others: List<(Op, Term)>,
+) -> Result<Term, AllocError>
+    ensures { IfOk result (λ t. t ≡ syntax.summed first others) }
+{
+    let mut found = first;
+    'others: for other in others.into_vec() {
+        let (op, term) = other;
+        found = two(alloc, op, found, term)?;
+    }
+    Ok(found)
+}
+
+/// A factor, and the factors behind it, from left to right.
+pub(crate) fn multiplied(alloc: Global, first: Term, others: List<Term>) -> Result<Term, AllocError>
+    ensures { IfOk result (λ t. t ≡ syntax.multiplied first others) }
+{
+    let mut found = first;
+    'others: for other in others.into_vec() {
+        found = two(alloc, Op::Mul, found, other)?;
+    }
+    Ok(found)
+}
+
+/// `+` or `-`.
+pub(crate) fn summing_of(kind: Kind) -> Op
+    ensures { result ≡ syntax.summing_of kind }
+{
+    match kind {
+        Kind::Plus => Op::Add,
+        _ => Op::Sub,
+    }
+}
+
+/// The relation of a sign.
+pub(crate) fn relation_of(kind: Kind) -> Rel
+    ensures { result ≡ syntax.relation_of kind }
+{
+    match kind {
+        Kind::Equal => Rel::Eq,
+        Kind::NotEqual => Rel::Ne,
+        Kind::LessEqual => Rel::Le,
+        _ => Rel::Lt,
+    }
+}
+
+/// The sort of a word.
+pub(crate) fn sort_of(kind: Kind) -> Sort
+    ensures { result ≡ syntax.sort_of kind }
+{
+    match kind {
+        Kind::Int => Sort::Int,
+        Kind::Val => Sort::Val,
+        _ => Sort::List,
+    }
+}
+
+/// The type of one word.
+pub(crate) fn simple_of(kind: Kind) -> CType
+    ensures { result ≡ syntax.simple_of kind }
+{
+    match kind {
+        Kind::Int => CType::Int,
+        Kind::Unsigned => CType::Unsigned,
+        Kind::Lock => CType::Lock,
+        _ => CType::Void,
+    }
+}

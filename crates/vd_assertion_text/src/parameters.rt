@@ -1,0 +1,96 @@
+//! Parameters.
+
+ghost use Rattle.std.specs.Prelude.{◌≡◌, ◌≤◌, length};
+ghost use Rattle.vd_grammar.specs.Outcome.{with_front};
+ghost use Rattle.vd_grammar.specs.Reads.{Reads};
+ghost use Rattle.vd_logic_grammar.specs.Grammar.{Phrase, Rule};
+ghost use Rattle.vd_logic_grammar.specs.Read.{read, read_rule};
+
+use crate::types::{ctype, filled, void_type};
+use std::alloc::Global;
+use vd_base::{Field, List};
+use vd_grammar::Stop;
+use vd_logic_grammar::{Class, Kind, Tokens, name_of};
+
+/// The parameters behind others, up to the closing bracket.
+#[tactic(auto, using(vd_logic_grammar::specs::Laws::read_is, vd_grammar::specs::Loops::fronts))]
+fn more_parameters(
+    alloc: Global,
+    tokens: &mut Tokens<'_>,
+    first: List<Field>,
+) -> Result<List<Field>, Stop>
+    ensures reads { Reads (with_front first (read Phrase.MoreParameters tokens.old)) result tokens.new }
+    ensures no_longer { length tokens.new ≤ length tokens.old }
+{
+    let mut found = first;
+    'found: while !tokens.sees(Class::One(Kind::RightParen)) {
+        tokens.take(Kind::Comma)?;
+        let typ = ctype(alloc, tokens)?;
+        let name = tokens.plain_name()?;
+        let name = name_of(alloc, name)?;
+        found.push(Field { name, typ })?;
+    }
+    tokens.take(Kind::RightParen)?;
+    Ok(found)
+}
+
+#[tactic(auto, using(vd_grammar::specs::Loops::fronts))]
+fn void_parameter(alloc: Global, tokens: &mut Tokens<'_>) -> Result<List<Field>, Stop>
+    ensures reads { Reads (read_rule Rule.void_parameter tokens.old) result tokens.new }
+    ensures no_longer { length tokens.new ≤ length tokens.old }
+{
+    let typ = void_type(alloc, tokens)?;
+    let name = tokens.plain_name()?;
+    let name = name_of(alloc, name)?;
+    let mut found = List::new(alloc);
+    found.push(Field { name, typ })?;
+    more_parameters(alloc, tokens, found)
+}
+
+/// What stands behind a `void` in front.
+#[tactic(auto, using(vd_logic_grammar::specs::Laws::read_is))]
+fn after_void(alloc: Global, tokens: &mut Tokens<'_>) -> Result<List<Field>, Stop>
+    ensures reads { Reads (read Phrase.AfterVoid tokens.old) result tokens.new }
+    ensures no_longer { length tokens.new ≤ length tokens.old }
+{
+    if tokens.sees(Class::One(Kind::RightParen)) {
+        tokens.take(Kind::RightParen)?;
+        Ok(List::new(alloc))
+    } else {
+        void_parameter(alloc, tokens)
+    }
+}
+
+fn void_first(alloc: Global, tokens: &mut Tokens<'_>) -> Result<List<Field>, Stop>
+    ensures reads { Reads (read_rule Rule.void_first tokens.old) result tokens.new }
+    ensures no_longer { length tokens.new ≤ length tokens.old }
+{
+    tokens.take(Kind::Void)?;
+    after_void(alloc, tokens)
+}
+
+#[tactic(auto, using(vd_grammar::specs::Loops::fronts))]
+fn filled_first(alloc: Global, tokens: &mut Tokens<'_>) -> Result<List<Field>, Stop>
+    ensures reads { Reads (read_rule Rule.filled_first tokens.old) result tokens.new }
+    ensures no_longer { length tokens.new ≤ length tokens.old }
+{
+    let typ = filled(alloc, tokens)?;
+    let name = tokens.plain_name()?;
+    let name = name_of(alloc, name)?;
+    let mut found = List::new(alloc);
+    found.push(Field { name, typ })?;
+    more_parameters(alloc, tokens, found)
+}
+
+/// The parameters of a function, up to the closing bracket.
+#[tactic(auto, using(vd_logic_grammar::specs::Laws::read_is))]
+pub(crate) fn parameters(alloc: Global, tokens: &mut Tokens<'_>) -> Result<List<Field>, Stop>
+    ensures reads { Reads (read Phrase.Parameters tokens.old) result tokens.new }
+    ensures no_longer { length tokens.new ≤ length tokens.old }
+{
+    if tokens.sees(Class::One(Kind::Void)) {
+        void_first(alloc, tokens)
+    } else {
+        filled_first(alloc, tokens)
+    }
+}

@@ -1,0 +1,179 @@
+//! Sections of predicates and specifications, up to the line `end`, and assertions of scripts.
+
+ghost use Rattle.std.specs.Prelude.{◌≡◌, ◌≤◌, length, map, IfOk};
+ghost use Rattle.vd_grammar.specs.Outcome.{with_front};
+ghost use Rattle.vd_grammar.specs.Reads.{Reads};
+ghost use Rattle.vd_logic_grammar.specs.Grammar.{Phrase, Rule};
+ghost use Rattle.vd_logic_grammar.specs.Read.{read, read_rule};
+ghost use Rattle.vd_logic_grammar.specs.Variables as variables;
+
+use crate::assertion::{assertion, facts};
+use crate::binder::binders;
+use crate::numbering::{numbered, sorts_of, with_result};
+use crate::parameters::parameters;
+use crate::types::ctype;
+use std::alloc::{AllocError, Global};
+use vd_base::{List, Name};
+use vd_clight::Signature;
+use vd_grammar::Stop;
+use vd_logic::{Assertion, Sort, Spec};
+use vd_logic_grammar::{AssertionText, Class, Kind, Tokens, name_of};
+
+/// An assertion of a script, whose opened variables alone are numbered.
+#[tactic(auto, using(vd_logic_grammar::specs::Laws::read_is))]
+pub fn claim(alloc: Global, tokens: &mut Tokens<'_>) -> Result<Assertion, Stop>
+    ensures reads { Reads (read Phrase.Claim tokens.old) result tokens.new }
+    ensures no_longer { length tokens.new ≤ length tokens.old }
+{
+    let text = assertion(alloc, tokens)?;
+    Ok(numbered(alloc, &[], &text)?)
+}
+
+/// The arguments of a predicate that an interface declares, and the line `end`.
+#[tactic(auto, using(vd_logic_grammar::specs::Laws::read_is))]
+pub fn abstract_section(alloc: Global, tokens: &mut Tokens<'_>) -> Result<List<Sort>, Stop>
+    ensures reads { Reads (read Phrase.AbstractSection tokens.old) result tokens.new }
+    ensures no_longer { length tokens.new ≤ length tokens.old }
+{
+    tokens.take(Kind::LeftParen)?;
+    let names = binders(alloc, tokens)?;
+    tokens.take(Kind::RightParen)?;
+    tokens.take(Kind::EndLine)?;
+    Ok(sorts_of(alloc, names.as_slice())?)
+}
+
+/// The cases behind others.
+#[tactic(auto, using(vd_logic_grammar::specs::Laws::read_is, vd_grammar::specs::Loops::fronts))]
+fn more_cases(
+    alloc: Global,
+    tokens: &mut Tokens<'_>,
+    first: List<AssertionText>,
+) -> Result<List<AssertionText>, Stop>
+    ensures reads { Reads (with_front first (read Phrase.MoreCases tokens.old)) result tokens.new }
+    ensures no_longer { length tokens.new ≤ length tokens.old }
+{
+    let mut found = first;
+    'found: while tokens.sees(Class::One(Kind::Case)) {
+        tokens.take(Kind::Case)?;
+        found.push(assertion(alloc, tokens)?)?;
+    }
+    Ok(found)
+}
+
+#[tactic(auto, using(vd_logic_grammar::specs::Laws::read_is, vd_grammar::specs::Loops::fronts))]
+fn cases(alloc: Global, tokens: &mut Tokens<'_>) -> Result<List<AssertionText>, Stop>
+    ensures reads { Reads (read Phrase.Cases tokens.old) result tokens.new }
+    ensures no_longer { length tokens.new ≤ length tokens.old }
+{
+    tokens.take(Kind::Case)?;
+    let mut found = List::new(alloc);
+    found.push(assertion(alloc, tokens)?)?;
+    more_cases(alloc, tokens, found)
+}
+
+fn number_cases(
+    alloc: Global,
+    names: &[(Name, Sort)],
+    cases: &List<AssertionText>,
+) -> Result<List<Assertion>, AllocError>
+    ensures { IfOk result (λ found. found ≡ map (variables.numbered_assertion names.now) cases.now) }
+{
+    let mut found = List::new(alloc);
+    for case in cases.as_slice() {
+        found.push(numbered(alloc, names, case)?)?;
+    }
+    Ok(found)
+}
+
+/// The sorts of a predicate's arguments, its cases, and the line `end`.
+#[tactic(auto, using(vd_logic_grammar::specs::Laws::read_is))]
+pub fn pred_section(
+    alloc: Global,
+    tokens: &mut Tokens<'_>,
+) -> Result<(List<Sort>, List<Assertion>), Stop>
+    ensures reads { Reads (read Phrase.PredSection tokens.old) result tokens.new }
+    ensures no_longer { length tokens.new ≤ length tokens.old }
+{
+    tokens.take(Kind::LeftParen)?;
+    let names = binders(alloc, tokens)?;
+    tokens.take(Kind::RightParen)?;
+    let texts = cases(alloc, tokens)?;
+    tokens.take(Kind::EndLine)?;
+    let sorts = sorts_of(alloc, names.as_slice())?;
+    let cases = number_cases(alloc, names.as_slice(), &texts)?;
+    Ok((sorts, cases))
+}
+
+#[tactic(auto, using(vd_logic_grammar::specs::Laws::read_is))]
+fn signature(alloc: Global, tokens: &mut Tokens<'_>) -> Result<Signature, Stop>
+    ensures reads { Reads (read Phrase.Signature_ tokens.old) result tokens.new }
+    ensures no_longer { length tokens.new ≤ length tokens.old }
+{
+    let ret = ctype(alloc, tokens)?;
+    let name = tokens.own_name()?;
+    tokens.take(Kind::LeftParen)?;
+    let params = parameters(alloc, tokens)?;
+    let name = name_of(alloc, name)?;
+    Ok(Signature { ret, name, params })
+}
+
+fn some_names(alloc: Global, tokens: &mut Tokens<'_>) -> Result<List<(Name, Sort)>, Stop>
+    ensures reads { Reads (read_rule Rule.with_binders tokens.old) result tokens.new }
+    ensures no_longer { length tokens.new ≤ length tokens.old }
+{
+    tokens.take(Kind::With)?;
+    let names = binders(alloc, tokens)?;
+    tokens.take(Kind::Semicolon)?;
+    Ok(names)
+}
+
+/// The variables of a specification, or none.
+#[tactic(auto, using(vd_logic_grammar::specs::Laws::read_is))]
+fn with_names(alloc: Global, tokens: &mut Tokens<'_>) -> Result<List<(Name, Sort)>, Stop>
+    ensures reads { Reads (read Phrase.With tokens.old) result tokens.new }
+    ensures no_longer { length tokens.new ≤ length tokens.old }
+{
+    if tokens.sees(Class::One(Kind::With)) {
+        some_names(alloc, tokens)
+    } else {
+        Ok(List::new(alloc))
+    }
+}
+
+fn specification(
+    alloc: Global,
+    signature: Signature,
+    names: List<(Name, Sort)>,
+    pre: &AssertionText,
+    post: &AssertionText,
+) -> Result<Spec, AllocError>
+    ensures { IfOk result (λ it. it ≡ variables.spec_of signature names pre.now post.now) }
+{
+    let pre = numbered(alloc, names.as_slice(), pre)?;
+    let all = with_result(alloc, names.as_slice())?;
+    let post = numbered(alloc, all.as_slice(), post)?;
+    Ok(Spec {
+        ret: signature.ret,
+        name: signature.name,
+        params: signature.params,
+        with: names,
+        pre,
+        post,
+    })
+}
+
+/// The specification of a function, and the line `end`.
+#[tactic(auto, using(vd_logic_grammar::specs::Laws::read_is))]
+pub fn spec_section(alloc: Global, tokens: &mut Tokens<'_>) -> Result<Spec, Stop>
+    ensures reads { Reads (read Phrase.SpecSection tokens.old) result tokens.new }
+    ensures no_longer { length tokens.new ≤ length tokens.old }
+{
+    let signature = signature(alloc, tokens)?;
+    let names = with_names(alloc, tokens)?;
+    tokens.take(Kind::Pre)?;
+    let pre = facts(alloc, tokens)?;
+    tokens.take(Kind::Post)?;
+    let post = assertion(alloc, tokens)?;
+    tokens.take(Kind::EndLine)?;
+    Ok(specification(alloc, signature, names, &pre, &post)?)
+}

@@ -1,0 +1,4 @@
+pub mod Classes
+mod Cuts
+mod Fitting
+mod Owning

@@ -1,0 +1,8 @@
+use Rattle.std.proofs.Common.{◌≡◌, ◌++◌, drop}
+use Rattle.vd_tokens.specs.Lexeme as plain
+use Rattle.vd_logic_grammar.specs.Lexeme.{lexemes_of}
+use Rattle.vd_logic_grammar.specs.Words.{lexemes_in}
+use Rattle.vd_logic_grammar.proofs.lex.with_tokens.Given as goal
+
+abbrev pub invariant-tokens : goal.invariant-tokens
+invariant-tokens l = lexemes_of l.found.items ++ lexemes_in l.language l.own (plain.lexemes_of (drop l.token-index l.tokens)) ≡ lexemes_of l.fn.front.items ++ lexemes_in l.language l.own (plain.lexemes_of l.tokens)

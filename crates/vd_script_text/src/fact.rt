@@ -1,0 +1,104 @@
+//! Steps on predicates and facts, without blocks.
+
+ghost use Rattle.std.specs.Prelude.{◌≡◌, ◌<◌, ◌≤◌, length, OnOk};
+ghost use Rattle.vd_grammar.specs.Reads.{Reads};
+ghost use Rattle.vd_logic_grammar.specs.Grammar.{Phrase, Rule};
+ghost use Rattle.vd_logic_grammar.specs.Read.{read, read_rule};
+ghost use Rattle.vd_script_text.specs.Lists.{two_lists};
+
+use crate::certificate::by;
+use crate::parts::{back, occurrence};
+use std::alloc::Global;
+use vd_assertion_text::{prop, terms};
+use vd_base::List;
+use vd_grammar::Stop;
+use vd_logic::{StepNode, Term};
+use vd_logic_grammar::{Class, Kind, Tokens, name_of};
+
+/// Two lists of terms in brackets.
+fn two_lists(alloc: Global, tokens: &mut Tokens<'_>) -> Result<(List<Term>, List<Term>), Stop>
+    ensures reads { Reads (two_lists tokens.old) result tokens.new }
+    ensures no_longer { length tokens.new ≤ length tokens.old }
+{
+    tokens.take(Kind::LeftParen)?;
+    let first = terms(alloc, tokens)?;
+    tokens.take(Kind::LeftParen)?;
+    let second = terms(alloc, tokens)?;
+    Ok((first, second))
+}
+
+pub(crate) fn fold(alloc: Global, tokens: &mut Tokens<'_>) -> Result<StepNode, Stop>
+    ensures reads { Reads (read_rule Rule.fold_step tokens.old) result tokens.new }
+    ensures no_longer { length tokens.new ≤ length tokens.old }
+    ensures shorter { OnOk result (length tokens.new < length tokens.old) }
+{
+    tokens.take(Kind::Fold)?;
+    let name = tokens.name()?;
+    let case = tokens.index()?;
+    let lists = two_lists(alloc, tokens)?;
+    let proofs = by(alloc, tokens)?;
+    tokens.take(Kind::Semicolon)?;
+    let name = name_of(alloc, name)?;
+    Ok(StepNode::Fold(name, case.value as u32, lists.0, lists.1, proofs))
+}
+
+pub(crate) fn absurd(alloc: Global, tokens: &mut Tokens<'_>) -> Result<StepNode, Stop>
+    ensures reads { Reads (read_rule Rule.absurd_step tokens.old) result tokens.new }
+    ensures no_longer { length tokens.new ≤ length tokens.old }
+    ensures shorter { OnOk result (length tokens.new < length tokens.old) }
+{
+    tokens.take(Kind::Absurd)?;
+    let proofs = by(alloc, tokens)?;
+    tokens.take(Kind::Semicolon)?;
+    Ok(StepNode::Absurd(proofs))
+}
+
+pub(crate) fn have(alloc: Global, tokens: &mut Tokens<'_>) -> Result<StepNode, Stop>
+    ensures reads { Reads (read_rule Rule.have_step tokens.old) result tokens.new }
+    ensures no_longer { length tokens.new ≤ length tokens.old }
+    ensures shorter { OnOk result (length tokens.new < length tokens.old) }
+{
+    tokens.take(Kind::Have)?;
+    let fact = prop(alloc, tokens)?;
+    let proofs = by(alloc, tokens)?;
+    tokens.take(Kind::Semicolon)?;
+    Ok(StepNode::Have(fact, proofs))
+}
+
+pub(crate) fn law(alloc: Global, tokens: &mut Tokens<'_>) -> Result<StepNode, Stop>
+    ensures reads { Reads (read_rule Rule.law_step tokens.old) result tokens.new }
+    ensures no_longer { length tokens.new ≤ length tokens.old }
+    ensures shorter { OnOk result (length tokens.new < length tokens.old) }
+{
+    tokens.take(Kind::Law)?;
+    let name = tokens.name()?;
+    tokens.take(Kind::LeftParen)?;
+    let terms = terms(alloc, tokens)?;
+    let proofs = by(alloc, tokens)?;
+    tokens.take(Kind::Semicolon)?;
+    Ok(StepNode::Law(name_of(alloc, name)?, terms, proofs))
+}
+
+pub(crate) fn subst(alloc: Global, tokens: &mut Tokens<'_>) -> Result<StepNode, Stop>
+    ensures reads { Reads (read_rule Rule.subst_step tokens.old) result tokens.new }
+    ensures no_longer { length tokens.new ≤ length tokens.old }
+    ensures shorter { OnOk result (length tokens.new < length tokens.old) }
+{
+    tokens.take(Kind::Subst)?;
+    let name = tokens.name()?;
+    tokens.take(Kind::Semicolon)?;
+    Ok(StepNode::Subst(name_of(alloc, name)?))
+}
+
+pub(crate) fn rewrite(alloc: Global, tokens: &mut Tokens<'_>) -> Result<StepNode, Stop>
+    ensures reads { Reads (read_rule Rule.rewrite_step tokens.old) result tokens.new }
+    ensures no_longer { length tokens.new ≤ length tokens.old }
+    ensures shorter { OnOk result (length tokens.new < length tokens.old) }
+{
+    tokens.take(Kind::Rewrite)?;
+    let backwards = back(tokens)?;
+    let first = tokens.index()?;
+    let place = occurrence(alloc, tokens)?;
+    tokens.take(Kind::Semicolon)?;
+    Ok(StepNode::Rewrite(backwards, first.value as u32, place))
+}

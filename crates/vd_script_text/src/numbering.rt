@@ -1,0 +1,102 @@
+//! The numbers of steps.
+
+ghost use Rattle.std.specs.Prelude.{◌≡◌, ◌≤◌, map, IfOk, OnOk};
+ghost use Rattle.vd_logic_grammar.specs.Numbers as numbers;
+
+use std::alloc::{AllocError, Global};
+use vd_base::List;
+use vd_logic::{Block, Step, StepNode};
+
+#[cycle(number)]
+fn in_node(alloc: Global, node: StepNode, number: &mut u32) -> Result<StepNode, AllocError>
+    ensures { IfOk result (λ it. (it, number.new) ≡ numbers.numbered_node node number.old) }
+{
+    match node {
+        StepNode::If(items, proofs, a, b) => {
+            let a = in_block(alloc, a, number)?;
+            let b = in_block(alloc, b, number)?;
+            Ok(StepNode::If(items, proofs, a, b))
+        }
+        StepNode::While(invariant, behind, names, a, b) => {
+            let a = in_block(alloc, a, number)?;
+            let b = in_block(alloc, b, number)?;
+            Ok(StepNode::While(invariant, behind, names, a, b))
+        }
+        StepNode::Block(count, assertion, names, a) => {
+            let a = in_block(alloc, a, number)?;
+            Ok(StepNode::Block(count, assertion, names, a))
+        }
+        StepNode::Pose(assertion, names, a) => {
+            let a = in_block(alloc, a, number)?;
+            Ok(StepNode::Pose(assertion, names, a))
+        }
+        StepNode::Malloc(name, a, b) => {
+            let a = in_block(alloc, a, number)?;
+            let b = in_block(alloc, b, number)?;
+            Ok(StepNode::Malloc(name, a, b))
+        }
+        StepNode::Unfold(item, cases) => {
+            let cases = in_blocks(alloc, cases, number)?;
+            Ok(StepNode::Unfold(item, cases))
+        }
+        StepNode::Split(fact, a, b) => {
+            let a = in_block(alloc, a, number)?;
+            let b = in_block(alloc, b, number)?;
+            Ok(StepNode::Split(fact, a, b))
+        }
+        other => Ok(other),
+    }
+}
+
+#[cycle(number)]
+fn in_block(alloc: Global, block: Block, number: &mut u32) -> Result<Block, AllocError>
+    ensures { IfOk result (λ it. (it, number.new) ≡ numbers.numbered_block block number.old) }
+{
+    let Block { names, steps } = block;
+    let steps = in_steps(alloc, steps, number)?;
+    Ok(Block { names, steps })
+}
+
+#[cycle(number)]
+fn in_blocks(
+    alloc: Global,
+    blocks: List<Block>,
+    number: &mut u32,
+) -> Result<List<Block>, AllocError>
+    ensures { IfOk result (λ it. (it, number.new) ≡ numbers.in_order (map numbers.numbered_block blocks) number.old) }
+{
+    let mut found = List::new(alloc);
+    'blocks: for block in blocks.into_vec() {
+        found.push(in_block(alloc, block, number)?)?;
+    }
+    Ok(found)
+}
+
+#[cycle(number)]
+fn in_step(alloc: Global, step: Step, number: &mut u32) -> Result<Step, AllocError>
+    ensures { IfOk result (λ it. (it, number.new) ≡ numbers.numbered_step step number.old) }
+{
+    let own = *number;
+    *number = own.saturating_add(1);
+    let node = in_node(alloc, step.node, number)?;
+    Ok(Step { number: own, node })
+}
+
+#[cycle(number)]
+fn in_steps(alloc: Global, steps: List<Step>, number: &mut u32) -> Result<List<Step>, AllocError>
+    ensures { IfOk result (λ it. (it, number.new) ≡ numbers.numbered_in_order steps number.old) }
+{
+    let mut found = List::new(alloc);
+    'steps: for step in steps.into_vec() {
+        found.push(in_step(alloc, step, number)?)?;
+    }
+    Ok(found)
+}
+
+/// The steps of a section with their numbers, in reading order from 1.
+pub(crate) fn numbered(alloc: Global, steps: List<Step>) -> Result<List<Step>, AllocError>
+    ensures { IfOk result (λ it. it ≡ numbers.numbered_steps steps) }
+{
+    let mut number = 1;
+    in_steps(alloc, steps, &mut number)
+}

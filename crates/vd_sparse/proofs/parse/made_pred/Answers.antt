@@ -1,0 +1,19 @@
+use Rattle.std.proofs.Common.{rules, ℕ, Bool, List, Ok, Err, sym, subst}
+use Rattle.vd_logic_grammar.specs.Grammar.{PredSection}
+use Rattle.vd_logic_grammar.specs.Lexeme.{Lexeme, lexemes_of}
+use Rattle.vd_logic_grammar.specs.Tokens.{IsCut, Answers}
+use Rattle.vd_sparse.specs.declared.kind.SectionKind.TheVariants as kind
+use Rattle.vd_sparse.specs.Sections.{AnswersKind, made}
+use Rattle.vd_sparse.specs.Whole.{front_answer}
+use Rattle.vd_sparse.proofs.parse.made_pred.Goals as goal
+
+pub returns-in-Ok-in-Ok : goal.returns-in-Ok-in-Ok
+returns-in-Ok-in-Ok c = λ text h.
+    let read : (ts : List Lexeme) (b : Bool) (end : ℕ) → IsCut ts b end (lexemes_of c.args.front.now.tokens.items) c.args.front.now.cause c.args.front.now.at → Answers PredSection ts b end (Ok c.in-Ok-in-Ok.found) = search rules in
+    rw c.predicate.ensures (subst (λ x. AnswersKind kind.Pred text (Ok (made kind.Pred x c.in-Ok-in-Ok.found))) (sym c.in-Ok.ensures)
+    (front_answer kind.Pred text c.args.front.now.own.now (lexemes_of c.args.front.now.tokens.items) c.args.front.now.cause c.args.front.now.at (Ok c.in-Ok-in-Ok.found) h read))
+
+pub returns-in-Err-in-Ok : goal.returns-in-Err-in-Ok
+returns-in-Err-in-Ok c = λ text h.
+    let read : (ts : List Lexeme) (b : Bool) (end : ℕ) → IsCut ts b end (lexemes_of c.args.front.now.tokens.items) c.args.front.now.cause c.args.front.now.at → Answers PredSection ts b end (Err c.in-Err-in-Ok.fault) = search rules in
+    front_answer kind.Pred text c.args.front.now.own.now (lexemes_of c.args.front.now.tokens.items) c.args.front.now.cause c.args.front.now.at (Err c.in-Err-in-Ok.fault) h read
