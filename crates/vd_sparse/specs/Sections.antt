@@ -60,9 +60,9 @@ phrase_of kind.Init = InitSection
 
 -- what it says, with the header's name
 abbrev pub made : (k : SectionKind) → List ℕ → Value (phrase_of k) → LogicText
-made kind.Abstract own sorts = logic.Abstract own sorts
-made kind.Pred own p = logic.Pred (record { name = own; args = p.0; cases = p.1 })
-made kind.Spec own spec = logic.Spec spec
+made kind.Abstract own p = logic.Abstract own p.0 p.1
+made kind.Pred own p = logic.Pred (record { name = own; args = p.0; cases = p.1 }) p.2
+made kind.Spec own p = logic.Spec p.0 p.1
 made kind.Script own steps = logic.Script own steps
 made kind.Sub own steps = logic.Sub own steps
 made kind.Init own p = logic.Init p.0 p.1
