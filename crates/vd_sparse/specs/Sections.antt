@@ -1,12 +1,7 @@
 -- What a section of the logic is, and what a reader of sections answers.
-use Rattle.std.specs.Prelude.{ℕ, Bool, true, false, List, codes, Result, if◌then◌else◌}
+use Rattle.std.specs.Prelude.{ℕ, List, codes, Result, if◌then◌else◌}
 use Rattle.std.specs.Str.{bytes_eq}
 use Rattle.vd_grammar.specs.declared.fault.ParseFault.{ParseFault}
-use Rattle.vd_logic.specs.declared.assertion.Assertion.{Assertion}
-use Rattle.vd_logic.specs.declared.assertion.Item.{Item}
-use Rattle.vd_logic.specs.declared.assertion.Spec.{Spec}
-use Rattle.vd_logic.specs.declared.step.Step.{Step}
-use Rattle.vd_logic.specs.declared.term.Sort.{Sort}
 use Rattle.vd_section.specs.Answer.{AnswersText}
 use Rattle.vd_section.specs.HeaderLine.{HeaderCut, word_of, named_header, plain_header}
 use Rattle.vd_tokens.specs.declared.alphabet.Alphabet.TheVariants.{Logic}
