@@ -19,12 +19,12 @@ decreases-in_step l = of_step l.step
 abbrev pub decreases-in_steps : goal.decreases-in_steps
 decreases-in_steps l = of_steps l.steps
 
-abbrev pub invariant-in_blocks-blocks : goal.invariant-in_blocks-blocks
-invariant-in_blocks-blocks l =
+abbrev pub invariant-in_blocks-each : goal.invariant-in_blocks-each
+invariant-in_blocks-each l =
     (behind l.found (in_order (map numbered_block l.block-iterator.rest.items) l.number) ≡ in_order (map numbered_block l.fn.blocks) l.fn.number)
     × (of_blocks l.block-iterator.rest.items ≤ of_blocks l.fn.blocks)
 
-abbrev pub invariant-in_steps-steps : goal.invariant-in_steps-steps
-invariant-in_steps-steps l =
+abbrev pub invariant-in_steps-each : goal.invariant-in_steps-each
+invariant-in_steps-each l =
     (behind l.found (in_order (map numbered_step l.step-iterator.rest.items) l.number) ≡ in_order (map numbered_step l.fn.steps) l.fn.number)
     × (of_steps l.step-iterator.rest.items ≤ of_steps l.fn.steps)
