@@ -1,5 +1,5 @@
 -- The numbers of steps, by a step's node.
-use Rattle.std.proofs.Common.{ℕ, ◌≡◌, List, [], ◌∷◌, ◌++◌, map, refl, sym, ◌∙◌, ap, append_assoc}
+use Rattle.std.proofs.Common.{ℕ, ◌≡◌, List, [], ◌∷◌, ◌++◌, map, sym, ◌∙◌, ap, append_assoc}
 use Rattle.std.proofs.lemmas.List.{append-nil}
 use Rattle.vd_logic.specs.declared.assertion.Assertion.{Assertion}
 use Rattle.vd_logic.specs.declared.assertion.Prop.{Prop}
@@ -10,7 +10,7 @@ use Rattle.vd_logic.specs.declared.step.StepNode.{StepNode, StepNode-F, out-Step
 use Rattle.vd_logic.specs.declared.step.StepNode.TheOpen as open_
 use Rattle.vd_logic.specs.declared.step.StepNode.TheVariants as s
 use Rattle.vd_logic.specs.declared.step.StepNode.TheVariants.{outs-If, outs-While, outs-Block, outs-Pose, outs-Malloc, outs-Unfold, outs-Split}
-use Rattle.vd_logic.specs.declared.step.StepNode.TheVariants.{rolls-If, rolls-While, rolls-Block, rolls-Pose, rolls-Malloc, rolls-Unfold, rolls-Split, rolls-Set, rolls-Load, rolls-Store, rolls-Break, rolls-Continue, rolls-Return, rolls-Fall, rolls-Call, rolls-Free, rolls-MakeLock, rolls-Acquire, rolls-Release, rolls-FreeLock, rolls-Spawn, rolls-Fold, rolls-Absurd, rolls-Have, rolls-Law, rolls-Subst, rolls-Rewrite, rolls-Cut, rolls-Glue, rolls-Share, rolls-Unshare, rolls-Agree, rolls-Bounds, rolls-Apart, rolls-Forget, rolls-Meet, rolls-Name}
+use Rattle.vd_logic.specs.declared.step.StepNode.TheVariants.{rolls-Skip, rolls-If, rolls-While, rolls-Block, rolls-Pose, rolls-Malloc, rolls-Unfold, rolls-Split, rolls-Set, rolls-Load, rolls-Store, rolls-Break, rolls-Continue, rolls-Return, rolls-Fall, rolls-Call, rolls-Free, rolls-MakeLock, rolls-Acquire, rolls-Release, rolls-FreeLock, rolls-Spawn, rolls-Fold, rolls-Absurd, rolls-Have, rolls-Law, rolls-Subst, rolls-Rewrite, rolls-Cut, rolls-Glue, rolls-Share, rolls-Unshare, rolls-Agree, rolls-Bounds, rolls-Apart, rolls-Forget, rolls-Meet, rolls-Name}
 use Rattle.vd_logic_grammar.specs.Numbers.{next_number, in_order, two_blocks, one_block, numbered_node_layer, numbered_step_layer, numbered_block_layer, numbered_node, numbered_step, numbered_block, numbered_in_order}
 
 abbrev counted : StepNode-F StepNode Block Step → ℕ → StepNode × ℕ
@@ -89,7 +89,7 @@ pub record IsPlain (x : StepNode) : Type 0 where
   pub no_split : (p : Prop) (a b : Block) → x ≡ s.Split p a b → ⊥
 
 roll_plain : (l : StepNode-F StepNode Block Step) (n : ℕ) → IsPlain (roll-StepNode l) → counted l n ≡ (roll-StepNode l, n)
-roll_plain open_.Skip n h = refl
+roll_plain open_.Skip n h = ap (λ y. (y, n)) rolls-Skip
 roll_plain (open_.If xs cs a b) n h = absurd (h.no_if xs cs a b (sym (rolls-If xs cs a b)))
 roll_plain (open_.While inv q xs a b) n h = absurd (h.no_while inv q xs a b (sym (rolls-While inv q xs a b)))
 roll_plain (open_.Block k q xs a) n h = absurd (h.no_block k q xs a (sym (rolls-Block k q xs a)))

@@ -1,5 +1,5 @@
 -- The measure of the numbering: a node, a block or a step weighs more than its parts together.
-use Rattle.std.proofs.Common.{ℕ, suc, ◌+◌, ◌≡◌, List, map, sum, ap, ◌∙◌}
+use Rattle.std.proofs.Common.{ℕ, suc, ◌+◌, ◌≡◌, List, [], ◌∷◌, map, ap, ◌∙◌}
 use Rattle.vd_logic.specs.declared.assertion.Assertion.{Assertion}
 use Rattle.vd_logic.specs.declared.assertion.Prop.{Prop}
 use Rattle.vd_logic.specs.declared.step.Certificate.{Certificate}
@@ -10,9 +10,13 @@ use Rattle.vd_logic.specs.declared.step.StepNode.TheOpen as open_
 use Rattle.vd_logic.specs.declared.step.StepNode.TheVariants as s
 use Rattle.vd_logic.specs.declared.step.StepNode.TheVariants.{outs-If, outs-While, outs-Block, outs-Pose, outs-Malloc, outs-Unfold, outs-Split}
 
+abbrev pub total : List ℕ → ℕ
+total [] = 0
+total (n ∷ ns) = n + total ns
+
 -- of a list, one more than of its items together
 abbrev pub together : List ℕ → ℕ
-together ns = suc (sum ns)
+together ns = suc (total ns)
 
 abbrev node_layer : StepNode-F ℕ ℕ ℕ → ℕ
 node_layer (open_.If xs cs a b) = suc (a + b)

@@ -7,6 +7,13 @@ use std::alloc::{AllocError, Global};
 use vd_base::List;
 use vd_logic::{Block, Step, StepNode};
 
+/// The number behind a number.
+fn following(number: u32) -> u32
+    ensures { result ≡ numbers.next_number number }
+{
+    number.saturating_add(1)
+}
+
 #[cycle(number)]
 fn in_node(alloc: Global, node: StepNode, number: &mut u32) -> Result<StepNode, AllocError>
     ensures { IfOk result (λ it. (it, number.new) ≡ numbers.numbered_node node number.old) }
@@ -78,7 +85,7 @@ fn in_step(alloc: Global, step: Step, number: &mut u32) -> Result<Step, AllocErr
     ensures { IfOk result (λ it. (it, number.new) ≡ numbers.numbered_step step number.old) }
 {
     let own = *number;
-    *number = own.saturating_add(1);
+    *number = following(own);
     let node = in_node(alloc, step.node, number)?;
     Ok(Step { number: own, node })
 }

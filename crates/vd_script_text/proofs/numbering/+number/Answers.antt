@@ -1,9 +1,10 @@
-use Rattle.std.proofs.Common.{◌≡◌, suc, ◌+◌, arith, sym, ap, ◌∙◌, rules}
+use Rattle.std.proofs.Common.{◌≡◌, suc, ◌+◌, ◌∷◌, map, arith, sym, ap, ◌∙◌}
+use Rattle.std.proofs.lemmas.Grind.{common_steps}
 use Rattle.vd_logic.specs.declared.step.Block.{out-Block}
 use Rattle.vd_logic.specs.declared.step.Step.{out-Step}
-use Rattle.vd_logic_grammar.specs.Numbers.{numbered_node, numbered_step, numbered_block}
-use Rattle.vd_script_text.proofs.Counting.{IsPlain, behind_next, behind_end, if_numbered, while_numbered, block_numbered, pose_numbered, malloc_numbered, unfold_numbered, split_numbered, plain_numbered, step_numbered, block_made}
-use Rattle.vd_script_text.proofs.Weights.{of_node, of_block, of_step, of_blocks, of_steps, weight-If, weight-While, weight-Block, weight-Pose, weight-Malloc, weight-Unfold, weight-Split, weight-Step, weight-inside}
+use Rattle.vd_logic_grammar.specs.Numbers.{numbered_node}
+use Rattle.vd_script_text.proofs.Counting.{if_numbered, while_numbered, block_numbered, pose_numbered, malloc_numbered, unfold_numbered, split_numbered, plain_numbered, step_numbered, block_made}
+use Rattle.vd_script_text.proofs.Weights.{total, of_node, of_block, of_step, of_blocks, of_steps, weight-If, weight-While, weight-Block, weight-Pose, weight-Malloc, weight-Unfold, weight-Split, weight-Step, weight-inside}
 use Rattle.vd_script_text.proofs.numbering.+number.Goals as goal
 
 pub in_block-in_steps-requires : goal.in_block-in_steps-requires
@@ -15,7 +16,10 @@ pub in_block-returns : goal.in_block-returns
 in_block-returns t c = block_made c.args.block _ _ _ c.in_ok-steps.ensures
 
 pub in_blocks-in_block-requires : goal.in_blocks-in_block-requires
-in_blocks-in_block-requires t c = (grind (arith), tt)
+in_blocks-in_block-requires t c =
+    let e : c.each.block-iterator.rest.items ≡ c.in-Some.block ∷ c.next.new.self.rest.items = first_of (grind arith, grind (arith, common_steps)) in
+    let w : of_blocks c.each.block-iterator.rest.items ≡ suc (of_block c.in-Some.block + total (map of_block c.next.new.self.rest.items)) = ap of_blocks e in
+    (omega (arith, c.decreases, c.each.invariant.1, w), tt)
 
 pub in_node-in_block-requires : goal.in_node-in_block-requires
 in_node-in_block-requires t c =
@@ -73,25 +77,25 @@ in_node-in_block-requires-in-Split-2 t c =
     (omega (arith, c.decreases, w), tt)
 
 pub in_node-returns-in_ok-second-in-If : goal.in_node-returns-in_ok-second-in-If
-in_node-returns-in_ok-second-in-If t c = if_numbered _ _ _ _ _ _ _ c.in_ok-first-in-If.ensures c.in_ok-second-in-If.ensures _ _ ∙ ap (λ x. numbered_node x _) (sym c.in-If.is)
+in_node-returns-in_ok-second-in-If t c = if_numbered _ _ _ _ _ _ _ c.in_ok-first-in-If.ensures c.in_ok-second-in-If.ensures _ _ ∙ ap (λ x. numbered_node x c.args.number.now) (sym c.in-If.is)
 
 pub in_node-returns-in_ok-second-in-While : goal.in_node-returns-in_ok-second-in-While
-in_node-returns-in_ok-second-in-While t c = while_numbered _ _ _ _ _ _ _ c.in_ok-first-in-While.ensures c.in_ok-second-in-While.ensures _ _ _ ∙ ap (λ x. numbered_node x _) (sym c.in-While.is)
+in_node-returns-in_ok-second-in-While t c = while_numbered _ _ _ _ _ _ _ c.in_ok-first-in-While.ensures c.in_ok-second-in-While.ensures _ _ _ ∙ ap (λ x. numbered_node x c.args.number.now) (sym c.in-While.is)
 
 pub in_node-returns-in_ok-first-in-Block : goal.in_node-returns-in_ok-first-in-Block
-in_node-returns-in_ok-first-in-Block t c = block_numbered _ _ _ _ c.in_ok-first-in-Block.ensures _ _ _ ∙ ap (λ x. numbered_node x _) (sym c.in-Block.is)
+in_node-returns-in_ok-first-in-Block t c = block_numbered _ _ _ _ c.in_ok-first-in-Block.ensures _ _ _ ∙ ap (λ x. numbered_node x c.args.number.now) (sym c.in-Block.is)
 
 pub in_node-returns-in_ok-first-in-Pose : goal.in_node-returns-in_ok-first-in-Pose
-in_node-returns-in_ok-first-in-Pose t c = pose_numbered _ _ _ _ c.in_ok-first-in-Pose.ensures _ _ ∙ ap (λ x. numbered_node x _) (sym c.in-Pose.is)
+in_node-returns-in_ok-first-in-Pose t c = pose_numbered _ _ _ _ c.in_ok-first-in-Pose.ensures _ _ ∙ ap (λ x. numbered_node x c.args.number.now) (sym c.in-Pose.is)
 
 pub in_node-returns-in_ok-second-in-Malloc : goal.in_node-returns-in_ok-second-in-Malloc
-in_node-returns-in_ok-second-in-Malloc t c = malloc_numbered _ _ _ _ _ _ _ c.in_ok-first-in-Malloc.ensures c.in_ok-second-in-Malloc.ensures _ ∙ ap (λ x. numbered_node x _) (sym c.in-Malloc.is)
+in_node-returns-in_ok-second-in-Malloc t c = malloc_numbered _ _ _ _ _ _ _ c.in_ok-first-in-Malloc.ensures c.in_ok-second-in-Malloc.ensures _ ∙ ap (λ x. numbered_node x c.args.number.now) (sym c.in-Malloc.is)
 
 pub in_node-returns-in_ok-numbered-in-Unfold : goal.in_node-returns-in_ok-numbered-in-Unfold
-in_node-returns-in_ok-numbered-in-Unfold t c = unfold_numbered _ _ _ _ _ c.in_ok-numbered-in-Unfold.ensures ∙ ap (λ x. numbered_node x _) (sym c.in-Unfold.is)
+in_node-returns-in_ok-numbered-in-Unfold t c = unfold_numbered _ _ _ _ _ c.in_ok-numbered-in-Unfold.ensures ∙ ap (λ x. numbered_node x c.args.number.now) (sym c.in-Unfold.is)
 
 pub in_node-returns-in_ok-second-in-Split : goal.in_node-returns-in_ok-second-in-Split
-in_node-returns-in_ok-second-in-Split t c = split_numbered _ _ _ _ _ _ _ c.in_ok-first-in-Split.ensures c.in_ok-second-in-Split.ensures _ ∙ ap (λ x. numbered_node x _) (sym c.in-Split.is)
+in_node-returns-in_ok-second-in-Split t c = split_numbered _ _ _ _ _ _ _ c.in_ok-first-in-Split.ensures c.in_ok-second-in-Split.ensures _ ∙ ap (λ x. numbered_node x c.args.number.now) (sym c.in-Split.is)
 
 pub in_node-returns-in_default : goal.in_node-returns-in_default
 in_node-returns-in_default t c =
@@ -111,7 +115,11 @@ in_step-in_node-requires t c =
     (omega (arith, c.decreases, w), tt)
 
 pub in_step-returns : goal.in_step-returns
-in_step-returns t c = step_numbered c.args.step _ _ _ c.in_ok-node.ensures
+in_step-returns t c =
+    step_numbered c.args.step _ c.args.number.now _ (c.in_ok-node.ensures ∙ ap (λ k. numbered_node (out-Step c.args.step).node k) c.following.ensures)
 
 pub in_steps-in_step-requires : goal.in_steps-in_step-requires
-in_steps-in_step-requires t c = (grind (arith), tt)
+in_steps-in_step-requires t c =
+    let e : c.each.step-iterator.rest.items ≡ c.in-Some.step ∷ c.next.new.self.rest.items = first_of (grind arith, grind (arith, common_steps)) in
+    let w : of_steps c.each.step-iterator.rest.items ≡ suc (of_step c.in-Some.step + total (map of_step c.next.new.self.rest.items)) = ap of_steps e in
+    (omega (arith, c.decreases, c.each.invariant.1, w), tt)
