@@ -182,7 +182,8 @@ fn variables(rt: HostRuntime) -> Result<(), Fail> {
         rt.alloc(),
         b"spec f\nint f ( int p ) with a : val , b : val , a : int ;\npre prop ( a = b ) local ( p = c ) sep ( )\npost ex m : int , n : val ; prop ( m = r ) sep ( q(n, b) )\nend\n",
     )?;
-    match parse_logic(rt.alloc(), &text) {
+    let read = parse_logic(rt.alloc(), &text);
+    match &read {
         Ok(LogicText::Spec(spec, _)) => {
             assert!(rt; equates(spec.pre.props.as_slice(), 2, 1));
             assert!(rt; equates(spec.post.props.as_slice(), 4, 3));
@@ -278,7 +279,8 @@ fn grouping(rt: HostRuntime) -> Result<(), Fail> {
         rt.alloc(),
         b"sub f\nname x = a - b - c * d * 2 ;\nif { skip ; } { skip ; skip ; } ;\nname y = [u, v] ;\nend\n",
     )?;
-    match parse_logic(rt.alloc(), &text) {
+    let read = parse_logic(rt.alloc(), &text);
+    match &read {
         Ok(LogicText::Sub(_, steps)) => match steps.as_slice() {
             [first, second, third] => {
                 assert_eq!(rt; (first.number, second.number, third.number), (1, 2, 6));
