@@ -201,10 +201,11 @@ fn variables(rt: HostRuntime) -> Result<(), Fail> {
 /// Whether a declaration hides an earlier one, where the section tells.
 fn hides(alloc: Global, text: &[u8]) -> Result<Option<bool>, AllocError> {
     let text = Text::new(alloc, text)?;
-    match parse_logic(alloc, &text) {
-        Ok(LogicText::Abstract(_, _, hides)) => Ok(Some(hides)),
-        Ok(LogicText::Pred(_, hides)) => Ok(Some(hides)),
-        Ok(LogicText::Spec(_, hides)) => Ok(Some(hides)),
+    let read = parse_logic(alloc, &text);
+    match &read {
+        Ok(LogicText::Abstract(_, _, hides)) => Ok(Some(*hides)),
+        Ok(LogicText::Pred(_, hides)) => Ok(Some(*hides)),
+        Ok(LogicText::Spec(_, hides)) => Ok(Some(*hides)),
         _ => Ok(None),
     }
 }
