@@ -4,8 +4,8 @@ use Rattle.std.proofs.lemmas.List.{append-nil}
 use Rattle.vd_logic.specs.declared.assertion.Assertion.{Assertion}
 use Rattle.vd_logic.specs.declared.assertion.Prop.{Prop}
 use Rattle.vd_logic.specs.declared.step.Certificate.{Certificate}
-use Rattle.vd_logic.specs.declared.step.Block.{Block, out-Block, roll-Block, out-roll-Block, fold_out-Block}
-use Rattle.vd_logic.specs.declared.step.Step.{Step, out-Step, roll-Step, out-roll-Step, fold_out-Step}
+use Rattle.vd_logic.specs.declared.step.Block.{Block, out-Block, roll-Block, fold_out-Block}
+use Rattle.vd_logic.specs.declared.step.Step.{Step, out-Step, roll-Step, fold_out-Step}
 use Rattle.vd_logic.specs.declared.step.StepNode.{StepNode, StepNode-F, out-StepNode, roll-StepNode, out-roll-StepNode, ind-StepNode, fold_out-StepNode, map-StepNode}
 use Rattle.vd_logic.specs.declared.step.StepNode.TheOpen as open_
 use Rattle.vd_logic.specs.declared.step.StepNode.TheVariants as s
