@@ -1,0 +1,14 @@
+pub mod SortLaws
+pub mod Shapes
+pub mod Derivations
+pub mod Taking
+pub mod Counting
+pub mod Completing
+pub mod Pairs
+pub mod Settling
+pub mod Seeing
+pub mod Firsts
+pub mod Disagreeing
+pub mod Misfitting
+pub mod Defining
+pub mod Judging

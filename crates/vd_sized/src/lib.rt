@@ -1,0 +1,14 @@
+//! Conditions of head parts that are about sorts, types and sizes.
+#![tactic(auto)]
+
+mod agreement;
+mod initial;
+mod leaves;
+mod order;
+mod size;
+mod sorts;
+mod types;
+
+pub use agreement::first_disagreement;
+pub use order::{StructSeen, struct_order, structs_seen};
+pub use size::Sizes;
