@@ -1,5 +1,5 @@
 -- The cells of a type, by what a part sees; and condition 5: a type is too large.
-use Rattle.std.specs.Prelude.{◌≡◌, ◌≤◌, ◌+◌, ℕ, Bool, true, false, min, List, [], ◌∷◌, ◌++◌, length, Option, None, Some}
+use Rattle.std.specs.Prelude.{◌≡◌, ◌≤◌, ◌+◌, ℕ, Bool, true, false, List, [], ◌∷◌, ◌++◌, length, Option, None, Some}
 use Rattle.std.specs.List.{repeat}
 use Rattle.vd_base.specs.declared.ctype.CType.{CType, CType-F, fold-CType}
 use Rattle.vd_base.specs.declared.ctype.CType.TheOpen as layer
