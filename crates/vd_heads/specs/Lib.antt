@@ -1,0 +1,7 @@
+pub mod HeadPart
+pub mod Declaration
+pub mod Closure
+pub mod Held
+pub mod Assertions
+pub mod Least
+pub mod Views

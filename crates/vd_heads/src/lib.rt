@@ -1,0 +1,20 @@
+//! Head parts: what they declare, and what one of them sees of the others.
+#![tactic(auto)]
+
+mod closure;
+mod content;
+mod holding;
+mod parts;
+mod smallest;
+mod table;
+mod view;
+
+pub use content::{Content, HeadSection, Mention, Part};
+pub use holding::held;
+pub use parts::{head_line, head_part, header_lines, is_head, section_word};
+pub use smallest::least;
+pub use table::{Declarations, Space, Spot, Table};
+pub use view::View;
+
+#[cfg(test)]
+mod tests;

@@ -1,0 +1,134 @@
+//! What a part sees.
+
+ghost use Rattle.std.specs.Prelude.{◌≡◌, ◌↔◌, [], true, slice_get, option_map, option_copied, unwrap_or, IfOk, IsTrue};
+ghost use Rattle.vd_heads.specs.Closure.{IsUnit, Knows, MeansOption};
+ghost use Rattle.vd_heads.specs.Declaration.{section_at};
+ghost use Rattle.vd_heads.specs.Declaration.{sections_in};
+ghost use Rattle.vd_heads.specs.Views.{IsTable, IsView, is_marked, spots_of};
+
+use crate::closure::{closure_of, exports_of};
+use crate::content::{Content, HeadSection, Part};
+use crate::table::{Space, Spot, Table};
+use std::alloc::{AllocError, Global};
+use vd_base::Name;
+
+/// A part among others, with its closure and with the interfaces that it exports.
+#[derive(Drop)]
+pub struct View<'a> {
+    pub parts: &'a [Part],
+    pub table: &'a Table<'a>,
+    pub own: usize,
+    closure: Vec<bool>,
+    exported: Vec<bool>,
+}
+
+fn is_marked(marks: &Vec<bool>, number: usize) -> bool
+    ensures { result ≡ is_marked marks.now.items number }
+{
+    match marks.get(number) {
+        Some(mark) => *mark,
+        None => false,
+    }
+}
+
+impl<'a> View<'a> {
+    pub fn of(
+        alloc: Global,
+        parts: &'a [Part],
+        table: &'a Table<'a>,
+        own: usize,
+    ) -> Result<View<'a>, AllocError>
+        requires { IsTable parts.now table.now }
+        ensures view { IfOk result IsView }
+        ensures parts { IfOk result (λ view. view.parts.now ≡ parts.now) }
+        ensures own { IfOk result (λ view. view.own ≡ own) }
+    {
+        let closure = closure_of(alloc, parts, table, own)?;
+        let exported = exports_of(alloc, parts, table, own)?;
+        Ok(View {
+            parts,
+            table,
+            own,
+            closure,
+            exported,
+        })
+    }
+
+    /// The sections of the part itself.
+    pub fn sections(&self) -> &'a [HeadSection]
+        ensures { result.now ≡ sections_in (slice_get self.now.parts.now self.now.own) }
+    {
+        match self.parts.get(self.own) {
+            Some(part) => part.sections.as_slice(),
+            None => &[],
+        }
+    }
+
+    /// Whether the part is that of a unit.
+    pub fn is_unit(&self) -> bool
+        ensures { IsTrue result ↔ IsUnit self.now.parts.now self.now.own }
+    {
+        match self.parts.get(self.own) {
+            Some(part) => part.is_unit(),
+            None => false,
+        }
+    }
+
+    pub fn sees(&self, part: usize) -> bool
+        ensures { result ≡ is_marked self.now.closure.items part }
+    {
+        is_marked(&self.closure, part)
+    }
+
+    pub fn exports(&self, part: usize) -> bool
+        ensures { result ≡ is_marked self.now.exported.items part }
+    {
+        is_marked(&self.exported, part)
+    }
+
+    pub fn content_at(&self, spot: Spot) -> Option<&'a Content>
+        ensures { option_copied result ≡ option_map (λ h. h.content) (section_at self.now.parts.now spot.part spot.section) }
+    {
+        let part = self.parts.get(spot.part)?;
+        let section = part.sections.get(spot.section)?;
+        Some(&section.content)
+    }
+
+    /// Where a name is declared, seen or not.
+    pub fn spots(&self, space: Space, name: &[u8]) -> &'a [Spot]
+        requires { IsView self.now }
+        ensures { result.now ≡ spots_of self.now.parts.now space name.now }
+    {
+        self.table.in_space(space).spots(name)
+    }
+
+    /// Whether a declaration of the name is seen.
+    pub fn knows(&self, space: Space, name: &Name) -> bool
+        requires { IsView self.now }
+        ensures { IsTrue result ↔ Knows self.now.parts.now self.now.own space name.now }
+    {
+        for spot in self.spots(space, name.as_bytes()) {
+            if self.sees(spot.part) {
+                return true;
+            }
+        }
+        false
+    }
+
+    /// What declares the name: the part itself where it does, else the first that is seen.
+    pub fn meaning(&self, space: Space, name: &Name) -> Option<&'a Content>
+        requires { IsView self.now }
+        ensures { MeansOption self.now.parts.now self.now.own space name.now (option_copied result) }
+    {
+        let mut first = None;
+        for spot in self.spots(space, name.as_bytes()) {
+            if spot.part == self.own {
+                return self.content_at(*spot);
+            }
+            if first.is_none() && self.sees(spot.part) {
+                first = self.content_at(*spot);
+            }
+        }
+        first
+    }
+}

@@ -1,0 +1,4 @@
+pub mod Known
+pub mod Twice
+pub mod Completeness
+pub mod HeaderNames

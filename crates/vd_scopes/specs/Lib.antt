@@ -1,0 +1,4 @@
+pub mod Listing
+pub mod Head
+pub mod Failing
+pub mod Scope

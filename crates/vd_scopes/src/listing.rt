@@ -1,0 +1,119 @@
+//! Sections that list names: `uses`, `exports`, `units`.
+
+ghost use Rattle.std.specs.Prelude.{◌≡◌, ◌<◌, ◌+◌, ◌^◌, ℕ, length, List as Items, Result, Ok, Err, true, false, IfOk, IsErrOf};
+ghost use Rattle.vd_outline.specs.Lines.{lacks};
+ghost use Rattle.vd_tokens.specs.declared.alphabet.Alphabet.TheVariants.{Declaration};
+ghost use Rattle.vd_tokens.specs.declared.token.End.{End as Ended};
+ghost use Rattle.vd_tokens.specs.Lexeme.{Lexeme, lexeme_of, lexemes_of};
+ghost use Rattle.vd_tokens.specs.Text.{Tokenizes};
+ghost use Rattle.vd_heads.specs.declared.content.Mention.{Mention as Mentioned};
+ghost use Rattle.vd_scopes.specs.Listing as listing;
+
+use std::alloc::{AllocError, Global};
+use vd_base::{List, Name, NameFault, Text};
+use vd_grammar::ParseFault;
+use vd_outline::cut_at;
+use vd_tokens::{Alphabet, End, Token, TokenKind, tokenize};
+use vd_heads::Mention;
+
+/// Why tokens are no list of names.
+#[derive(Drop)]
+pub(crate) enum Stopped {
+    /// This token cannot stand where it stands.
+    At(u32),
+    Memory(AllocError),
+}
+
+impl From<AllocError> for Stopped {
+    ghost use Rattle.std.specs.Prelude.{◌≡◌};
+    ghost use Rattle.vd_scopes.specs.declared.listing.Stopped.TheVariants.{Memory};
+
+    ghost from_gives = { λ e fault. fault ≡ Memory e };
+
+    fn from(fault: AllocError) -> Stopped {
+        Stopped::Memory(fault)
+    }
+}
+
+fn mention_of(alloc: Global, token: &Token<'_>) -> Result<Mention, Stopped>
+    ensures name { IfOk result (λ m. (listing.is_name_token (lexeme_of token.now) ≡ true) × (m ≡ listing.mention_of (lexeme_of token.now))) }
+    ensures at { (place : ℕ) → IsErrOf result (Stopped.At place) → (listing.is_name_token (lexeme_of token.now) ≡ false) × (place ≡ token.now.place) }
+{
+    if token.kind != TokenKind::Word {
+        return Err(Stopped::At(token.place));
+    }
+    match Name::new(alloc, token.spelling) {
+        Ok(name) => Ok(Mention {
+            name,
+            place: token.place,
+        }),
+        Err(NameFault::NotName) => Err(Stopped::At(token.place)),
+        Err(NameFault::Memory(fault)) => Err(Stopped::Memory(fault)),
+    }
+}
+
+/// The names that tokens list, and whether one more has to follow.
+fn listed(alloc: Global, tokens: &[Token<'_>]) -> Result<(List<Mention>, bool), Stopped>
+    ensures names { IfOk result (λ found. (end : Ended) → listing.listed true (lexemes_of tokens.now) end ≡ listing.with_names found.0 (listing.ending found.1 end)) }
+    ensures at { (place : ℕ) → IsErrOf result (Stopped.At place) → (end : Ended) → listing.listed true (lexemes_of tokens.now) end ≡ Err place }
+{
+    let mut names = List::new(alloc);
+    let mut wants_name = true;
+    for token in tokens {
+        if wants_name {
+            names.push(mention_of(alloc, token)?)?;
+            wants_name = false;
+        } else if token.kind == TokenKind::Sign && token.spelling == b",".as_slice() {
+            wants_name = true;
+        } else {
+            return Err(Stopped::At(token.place));
+        }
+    }
+    Ok((names, wants_name))
+}
+
+/// The names in the content of a section, whose first byte has this place.
+fn listed_in(alloc: Global, content: &[u8], place: u32) -> Result<List<Mention>, Stopped>
+    requires { place + length content.now < 2 ^ 32 }
+    ensures names { IfOk result (λ names. (ts : Items Lexeme) (end : Ended) → Tokenizes Declaration place content.now ts end → listing.listed true ts end ≡ Ok names) }
+    ensures at { (at : ℕ) → IsErrOf result (Stopped.At at) → (ts : Items Lexeme) (end : Ended) → Tokenizes Declaration place content.now ts end → listing.listed true ts end ≡ Err at }
+{
+    let found = tokenize(alloc, Alphabet::Declaration, content, place)?;
+    let (names, wants_name) = listed(alloc, found.tokens.as_slice())?;
+    match found.end {
+        End::Unknown(at) => Err(Stopped::At(at)),
+        End::Text(at) => {
+            if wants_name {
+                Err(Stopped::At(at))
+            } else {
+                Ok(names)
+            }
+        }
+    }
+}
+
+/// The names, one or more with `,` between them, of a section whose header line has no name, given by its text from that
+/// line to the line `end`, both included; with their places in it. `Bad` has the place of the first token that cannot
+/// stand where it stands, the line `end` being one. A text of 4 GiB or more is beyond the reader's memory.
+pub fn names_in(alloc: Global, text: &Text) -> Result<List<Mention>, ParseFault>
+    ensures names { IfOk result (λ names. (answer : Result (Items Mentioned) ℕ) → listing.IsListing text.now answer → answer ≡ Ok names) }
+    ensures at { (place : ℕ) → IsErrOf result (ParseFault.Bad place) → (answer : Result (Items Mentioned) ℕ) → listing.IsListing text.now answer → answer ≡ Err place }
+    ensures never_deep { (place : ℕ) → IsErrOf result (ParseFault.Deep place) → ⊥ }
+{
+    let bytes = text.as_bytes();
+    if bytes.len() > 4294967295 {
+        return Err(ParseFault::Memory);
+    }
+    let Some((header, body)) = cut_at(bytes, b'\n') else {
+        return Err(ParseFault::Bad(0));
+    };
+    if body.len() < 4 {
+        return Err(ParseFault::Bad(0));
+    }
+    let (content, _) = body.split_at(body.len() - 4);
+    match listed_in(alloc, content, header.len() as u32 + 1) {
+        Ok(names) => Ok(names),
+        Err(Stopped::At(at)) => Err(ParseFault::Bad(at)),
+        Err(Stopped::Memory(_)) => Err(ParseFault::Memory),
+    }
+}

@@ -1,0 +1,5 @@
+pub mod Sorts
+pub mod Cells
+pub mod Initial
+pub mod Agreement
+pub mod Sizes

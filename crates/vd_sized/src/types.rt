@@ -1,0 +1,37 @@
+//! Types in declarations.
+
+ghost use Rattle.std.specs.Prelude.{◌≡◌, ◌↔◌, IsTrue};
+ghost use Rattle.vd_sized.specs.Agreement.{SameTypes};
+
+use vd_base::{CType, Field};
+
+/// Whether two types are the same.
+pub fn same(a: &CType, b: &CType) -> bool
+    ensures { IsTrue result ↔ (a.now ≡ b.now) }
+{
+    match (a, b) {
+        (CType::Void, CType::Void) => true,
+        (CType::Int, CType::Int) => true,
+        (CType::Unsigned, CType::Unsigned) => true,
+        (CType::Lock, CType::Lock) => true,
+        (CType::Struct(s), CType::Struct(t)) => s.is_same(t),
+        (CType::Pointer(s), CType::Pointer(t)) => same(s.get(), t.get()),
+        (CType::Array(s, n), CType::Array(t, m)) => *n == *m && same(s.get(), t.get()),
+        _ => false,
+    }
+}
+
+/// Whether fields have the same types, one by one.
+pub fn same_types(a: &[Field], b: &[Field]) -> bool
+    ensures { IsTrue result ↔ SameTypes a.now b.now }
+{
+    if a.len() != b.len() {
+        return false;
+    }
+    for (f, g) in a.iter().zip(b.iter()) {
+        if !same(&f.typ, &g.typ) {
+            return false;
+        }
+    }
+    true
+}
