@@ -20,7 +20,7 @@ use Rattle.vd_heads.specs.declared.content.Mention.{Mention}
 use Rattle.vd_heads.specs.declared.content.Part.{Part}
 use Rattle.vd_sparse.specs.declared.text.LogicText.{LogicText}
 use Rattle.vd_sparse.specs.declared.text.LogicText.TheVariants as logic
-use Rattle.vd_scopes.specs.Listing.{IsListing}
+use Rattle.vd_listing.specs.Listing.{IsListing}
 use Rattle.vd_sparse.specs.Sections.{AnswersLogic}
 
 -- a place is told in 32 bits

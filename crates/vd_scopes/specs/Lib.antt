@@ -1,4 +1,3 @@
-pub mod Listing
 pub mod Head
 pub mod Failing
 pub mod Scope

@@ -9,7 +9,7 @@ ghost use Rattle.vd_heads.specs.HeadPart as head_part;
 ghost use Rattle.vd_outline.specs.Outline.{Bytes, HasHead, IsSection, Outlines};
 ghost use Rattle.vd_scopes.specs.Head as head;
 
-use crate::listing::names_in;
+use vd_listing::names_in;
 use vd_sparse::{LogicText, parse_logic};
 use std::alloc::{AllocError, Global};
 use vd_base::{List, Name, Text};

@@ -2,11 +2,9 @@
 #![tactic(auto)]
 
 mod contents;
-mod listing;
 mod scope;
 mod verdict;
 
-pub use listing::names_in;
 pub use scope::Scopes;
 pub use verdict::{HeadFault, scopes};
 

@@ -7,7 +7,7 @@ ghost use Rattle.vd_tokens.specs.declared.token.End.{End as Ended};
 ghost use Rattle.vd_tokens.specs.Lexeme.{Lexeme, lexeme_of, lexemes_of};
 ghost use Rattle.vd_tokens.specs.Text.{Tokenizes};
 ghost use Rattle.vd_heads.specs.declared.content.Mention.{Mention as Mentioned};
-ghost use Rattle.vd_scopes.specs.Listing as listing;
+ghost use Rattle.vd_listing.specs.Listing as listing;
 
 use std::alloc::{AllocError, Global};
 use vd_base::{List, Name, NameFault, Text};
@@ -26,7 +26,7 @@ pub(crate) enum Stopped {
 
 impl From<AllocError> for Stopped {
     ghost use Rattle.std.specs.Prelude.{◌≡◌};
-    ghost use Rattle.vd_scopes.specs.declared.listing.Stopped.TheVariants.{Memory};
+    ghost use Rattle.vd_listing.specs.declared.reading.Stopped.TheVariants.{Memory};
 
     ghost from_gives = { λ e fault. fault ≡ Memory e };
 
