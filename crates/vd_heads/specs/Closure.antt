@@ -20,6 +20,11 @@ abbrev pub is_unit : TextKind → Bool
 is_unit text.Unit = true
 is_unit _ = false
 
+-- the name of the interface that a head line is of
+abbrev pub interface_name : Option (TextKind × Bytes) → Option Bytes
+interface_name None = None
+interface_name (Some head) = if is_interface head.0 then Some head.1 else None
+
 -- the head line is that of an interface of this name
 abbrev pub heads_interface : Bytes → Option (TextKind × Bytes) → Bool
 heads_interface name None = false
