@@ -54,13 +54,13 @@ impl<'a> Declarations<'a> {
         ensures shared { OnOk result (shared_names self.new ≡ (if length (spots_in self.old name.now) == 1 then shared_names self.old ++ name.now ∷ [] else shared_names self.old)) }
     {
         let name = name.as_bytes();
-        if let Some(spots) = self.by_name.get_mut(name) {
-            if spots.len() == 1 {
-                self.shared.push(name)?;
-            }
-            return spots.push(spot);
+        let mut spots = match self.by_name.remove(name) {
+            Some(spots) => spots,
+            None => List::new(alloc),
+        };
+        if spots.len() == 1 {
+            self.shared.push(name)?;
         }
-        let mut spots = List::new(alloc);
         spots.push(spot)?;
         self.by_name.insert(name, spots)?;
         Ok(())
