@@ -1,5 +1,5 @@
 -- What the code keeps of parts, and of what one of them sees.
-use Rattle.std.specs.Prelude.{◌≡◌, ◌≤◌, ◌<◌, ◌↔◌, ℕ, suc, Bool, true, false, cond, List, [], ◌∷◌, ◌++◌, length, map, slice_get, unwrap_or}
+use Rattle.std.specs.Prelude.{◌≡◌, ◌≤◌, ◌<◌, ◌↔◌, ℕ, suc, Bool, true, false, cond, List, [], ◌∷◌, ◌++◌, length, map, Option, slice_get, unwrap_or}
 use Rattle.std.specs.List.{Contains}
 use Rattle.std.specs.BTreeMap.{get_by}
 use Rattle.std.specs.Cmp.Lexicographic.{slice_cmp}
@@ -39,6 +39,10 @@ in_space space.Global t = t.globals
 in_space space.Function t = t.functions
 in_space space.Predicate t = t.predicates
 
+-- what the table says is the number of the interface of a name
+abbrev pub interface_in : Table → Bytes → Option ℕ
+interface_in t name = get_by (λ k. slice_cmp nat_cmp name k.now) t.interfaces
+
 -- where the table says that a name is declared
 abbrev pub spots_in : Declarations → Bytes → List Spot
 spots_in d name = unwrap_or (get_by (λ k. slice_cmp nat_cmp name k.now) d.by_name) []
@@ -55,7 +59,7 @@ pub record AreDeclarations (places : Bytes → List Spot) (d : Declarations) : T
 -- The table is that of the parts.
 pub record IsTable (parts : List Part) (t : Table) : Type 0 where
   pub declarations : (s : Space) → AreDeclarations (spots_of parts s) (in_space s t)
-  pub interfaces : (name : Bytes) → get_by (λ k. slice_cmp nat_cmp name k.now) t.interfaces ≡ interface_at parts name
+  pub interfaces : (name : Bytes) → interface_in t name ≡ interface_at parts name
 
 -- ---- views
 

@@ -1,13 +1,11 @@
 //! Where names are declared.
 
-ghost use Rattle.std.specs.Prelude.{◌≡◌, ◌==◌, ◌++◌, ◌∷◌, ◌&&◌, List as Items, [], length, option_map, if◌then◌else◌, IfOk, OnOk};
-ghost use Rattle.std.specs.BTreeMap.{get_by};
-ghost use Rattle.std.specs.Cmp.Lexicographic.{slice_cmp};
-ghost use Rattle.std.specs.Ordering.{nat_cmp};
+ghost use Rattle.std.specs.Prelude.{◌≡◌, ◌==◌, ◌++◌, ◌∷◌, ◌&&◌, List as Items, [], length, None, Some, option_map, if◌then◌else◌, IfOk, OnOk};
+ghost use Rattle.std.specs.Option.{option_or};
 ghost use Rattle.std.specs.Str.{bytes_eq};
 ghost use Rattle.vd_heads.specs.Declaration.{Bytes, declaration, same_space};
 
-use crate::content::{Content, Part};
+use crate::content::{Content, HeadSection, Part};
 use std::alloc::{AllocError, Global};
 use std::collections::BTreeMap;
 use vd_base::{List, Name};
@@ -107,7 +105,8 @@ pub fn declared(content: &Content) -> Option<(Space, &Name)>
 }
 
 impl<'a> Table<'a> {
-    ghost use Rattle.vd_heads.specs.Views.{AreDeclarations, IsTable, in_space};
+    ghost use Rattle.vd_heads.specs.Closure.{heads_interface};
+    ghost use Rattle.vd_heads.specs.Views.{AreDeclarations, IsTable, in_space, interface_in, spots_in_part};
 
     pub fn in_space(&self, space: Space) -> &Declarations<'a>
         ensures { result.now ≡ in_space space self.now }
@@ -122,7 +121,7 @@ impl<'a> Table<'a> {
 
     /// The number of the interface of a name.
     pub fn interface(&self, name: &Name) -> Option<usize>
-        ensures { result ≡ get_by (λ k. slice_cmp nat_cmp name.now k.now) self.now.interfaces }
+        ensures { result ≡ interface_in self.now name.now }
     {
         self.interfaces.get(name.as_bytes()).copied()
     }
@@ -145,8 +144,9 @@ impl<'a> Table<'a> {
         }
     }
 
-    fn add_part(&mut self, alloc: Global, number: usize, part: &'a Part) -> Result<(), AllocError>
-        ensures { (before : Items Part) → length before ≡ number → IsTable before self.old → OnOk result (IsTable (before ++ part.now ∷ []) self.new) }
+    fn add_interface(&mut self, number: usize, part: &'a Part) -> Result<(), AllocError>
+        ensures interfaces { OnOk result ((name : Bytes) → interface_in self.new name ≡ option_or (interface_in self.old name) (if heads_interface name part.now.head then Some number else None)) }
+        ensures declarations { (s : Space) → in_space s self.new ≡ in_space s self.old }
     {
         if let Some(name) = part.interface() {
             let name = name.as_bytes();
@@ -154,7 +154,19 @@ impl<'a> Table<'a> {
                 self.interfaces.insert(name, number)?;
             }
         }
-        for (at, section) in part.sections.as_slice().iter().enumerate() {
+        Ok(())
+    }
+
+    fn add_sections(
+        &mut self,
+        alloc: Global,
+        number: usize,
+        sections: &'a [HeadSection],
+    ) -> Result<(), AllocError>
+        ensures declarations { (places : Space → Bytes → Items Spot) → ((s : Space) → AreDeclarations (places s) (in_space s self.old)) → OnOk result ((s : Space) → AreDeclarations (λ name. places s name ++ spots_in_part s name number 0 sections.now) (in_space s self.new)) }
+        ensures interfaces { self.new.interfaces ≡ self.old.interfaces }
+    {
+        for (at, section) in sections.iter().enumerate() {
             if let Some((space, name)) = declared(&section.content) {
                 let spot = Spot {
                     part: number,
@@ -164,6 +176,13 @@ impl<'a> Table<'a> {
             }
         }
         Ok(())
+    }
+
+    fn add_part(&mut self, alloc: Global, number: usize, part: &'a Part) -> Result<(), AllocError>
+        ensures { (before : Items Part) → length before ≡ number → IsTable before self.old → OnOk result (IsTable (before ++ part.now ∷ []) self.new) }
+    {
+        self.add_interface(number, part)?;
+        self.add_sections(alloc, number, part.sections.as_slice())
     }
 
     pub fn of(alloc: Global, parts: &'a [Part]) -> Result<Table<'a>, AllocError>
