@@ -52,13 +52,21 @@ listed wants [] end = ending wants end
 listed true (t ∷ ts) end = if is_name_token t then with_name (mention_of t) (listed false ts end) else Err t.place
 listed false (t ∷ ts) end = if is_comma t then listed true ts end else Err t.place
 
+-- The tokens of a content, whose first byte has this place, list these names, or are at fault at a place.
+pub record IsContent (place : ℕ) (content : List ℕ) (answer : Result (List Mention) ℕ) : Type 0 where
+  pub tokens : List Lexeme
+  pub end : End
+  pub tokenized : Tokenizes Declaration place content tokens end
+  pub answer_is : answer ≡ listed true tokens end
+
+-- A section is a header line, its content, and the line `end`.
+pub record IsCut (text header content : List ℕ) : Type 0 where
+  pub cut : text ≡ header ++ 10 ∷ (content ++ codes "end\n")
+  pub one_line : lacks 10 header ≡ true
+
 -- The section lists these names, with their places in it, or is at fault at a place. The line `end` counts as a token.
 pub record IsListing (text : List ℕ) (answer : Result (List Mention) ℕ) : Type 0 where
   pub header : List ℕ
   pub content : List ℕ
-  pub tokens : List Lexeme
-  pub end : End
-  pub cut : text ≡ header ++ 10 ∷ (content ++ codes "end\n")
-  pub one_line : lacks 10 header ≡ true
-  pub tokenized : Tokenizes Declaration (length header + 1) content tokens end
-  pub answer_is : answer ≡ listed true tokens end
+  pub is_cut : IsCut text header content
+  pub listed_is : IsContent (length header + 1) content answer
