@@ -1,1 +1,3 @@
+pub mod HeldLaws
+mod HeadLaws
 mod TableLaws
