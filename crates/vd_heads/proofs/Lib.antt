@@ -1,3 +1,4 @@
 pub mod Sets
 pub mod Closing
 pub mod Places
+mod TableLaws
