@@ -1,4 +1,5 @@
 pub mod Sets
 pub mod Closing
 pub mod Places
+pub mod Meanings
 mod TableLaws

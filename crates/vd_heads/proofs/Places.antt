@@ -41,25 +41,26 @@ find_past p xs i past = sym (ap (find p) (drop_all i xs past))
 
 pub found_at : (p : Spot → Bool) (xs : List Spot) (x : Spot) → find p xs ≡ Some x → (j : ℕ) × (slice_get xs j ≡ Some x) × (p x ≡ true) × ((m : ℕ) (y : Spot) → m < j → slice_get xs m ≡ Some y → p y ≡ false)
 found_at p [] x e = cc
-found_at p (y ∷ xs) x e = go (p y) refl e where
+found_at p (y ∷ xs) x e = go (found_at p xs x) (p y) refl e where
   same : {a b : Spot} → Some a ≡ Some b → a ≡ b
   same f = cc
-  go : (b : Bool) → p y ≡ b → cond b (Some y) (find p xs) ≡ Some x → (j : ℕ) × (slice_get (y ∷ xs) j ≡ Some x) × (p x ≡ true) × ((m : ℕ) (z : Spot) → m < j → slice_get (y ∷ xs) m ≡ Some z → p z ≡ false)
-  go true t f = (0, f, ap p (sym (same f)) ∙ t, λ m z below at. absurd (omega (arith, below)))
-  go false t f = let r = found_at p xs x f in (suc r.0, r.1, r.2, before r.0 r.3) where
+  go : (find p xs ≡ Some x → (j : ℕ) × (slice_get xs j ≡ Some x) × (p x ≡ true) × ((m : ℕ) (z : Spot) → m < j → slice_get xs m ≡ Some z → p z ≡ false))
+    → (b : Bool) → p y ≡ b → cond b (Some y) (find p xs) ≡ Some x → (j : ℕ) × (slice_get (y ∷ xs) j ≡ Some x) × (p x ≡ true) × ((m : ℕ) (z : Spot) → m < j → slice_get (y ∷ xs) m ≡ Some z → p z ≡ false)
+  go rest true t f = (0, f, ap p (sym (same f)) ∙ t, λ m z below at. absurd (omega (arith, below)))
+  go rest false t f = let r = rest f in (suc r.0, r.1, r.2, before r.0 r.3) where
     before : (j : ℕ) → ((m : ℕ) (z : Spot) → m < j → slice_get xs m ≡ Some z → p z ≡ false) → (m : ℕ) (z : Spot) → m < suc j → slice_get (y ∷ xs) m ≡ Some z → p z ≡ false
     before j h zero z below at = ap p (sym (same at)) ∙ t
     before j h (suc m) z below at = h m z (omega (arith, below)) at
 
 pub found_none : (p : Spot → Bool) (xs : List Spot) → find p xs ≡ None → (m : ℕ) (y : Spot) → slice_get xs m ≡ Some y → p y ≡ false
 found_none p [] e m y at = cc
-found_none p (x ∷ xs) e m y at = go (p x) refl e m at where
+found_none p (x ∷ xs) e m y at = go (found_none p xs) (p x) refl e m at where
   same : {a b : Spot} → Some a ≡ Some b → a ≡ b
   same f = cc
-  go : (b : Bool) → p x ≡ b → cond b (Some x) (find p xs) ≡ None → (m : ℕ) → slice_get (x ∷ xs) m ≡ Some y → p y ≡ false
-  go true t f m g = cc
-  go false t f zero g = ap p (sym (same g)) ∙ t
-  go false t f (suc m) g = found_none p xs f m y g
+  go : (find p xs ≡ None → (m : ℕ) (y : Spot) → slice_get xs m ≡ Some y → p y ≡ false) → (b : Bool) → p x ≡ b → cond b (Some x) (find p xs) ≡ None → (m : ℕ) → slice_get (x ∷ xs) m ≡ Some y → p y ≡ false
+  go rest true t f m g = cc
+  go rest false t f zero g = ap p (sym (same g)) ∙ t
+  go rest false t f (suc m) g = rest f m y g
 
 -- ---- sections of one part
 
@@ -77,45 +78,44 @@ stands_later s name k i h hs x r = record { number = suc r.number; section = r.s
 
 in_part : (s : Space) (name : Bytes) (k i : ℕ) (hs : List HeadSection) (j : ℕ) (x : Spot) → slice_get (spots_in_part s name k i hs) j ≡ Some x → StandsIn s name k i hs x
 in_part s name k i [] j x e = cc
-in_part s name k i (h ∷ hs) j x e = go (declares s name h.content) refl j e where
+in_part s name k i (h ∷ hs) j x e = go (λ m. in_part s name k (suc i) hs m x) (declares s name h.content) refl j e where
   first : (y : Spot) → Some (record { part = k; section = i }) ≡ Some y → (y.part ≡ k) × (y.section ≡ i)
   first y f = (cc, cc)
-  go : (b : Bool) → declares s name h.content ≡ b → (j : ℕ) → slice_get (cond b (record { part = k; section = i } ∷ spots_in_part s name k (suc i) hs) (spots_in_part s name k (suc i) hs)) j ≡ Some x → StandsIn s name k i (h ∷ hs) x
-  go true d zero f = let p = first x f in record { number = 0; section = h; part_is = p.0; section_is = (let q = p.1 in omega (arith, q)); stands = refl; named = d }
-  go true d (suc j) f = stands_later s name k i h hs x (in_part s name k (suc i) hs j x f)
-  go false d j f = stands_later s name k i h hs x (in_part s name k (suc i) hs j x f)
-
-spot_of : ℕ → ℕ → Spot
-spot_of k i = record { part = k; section = i }
+  go : ((m : ℕ) → slice_get (spots_in_part s name k (suc i) hs) m ≡ Some x → StandsIn s name k (suc i) hs x) → (b : Bool) → declares s name h.content ≡ b → (j : ℕ) → slice_get (cond b (record { part = k; section = i } ∷ spots_in_part s name k (suc i) hs) (spots_in_part s name k (suc i) hs)) j ≡ Some x → StandsIn s name k i (h ∷ hs) x
+  go rest true d zero f = let p = first x f in record { number = 0; section = h; part_is = p.0; section_is = (let q = p.1 in omega (arith, q)); stands = refl; named = d }
+  go rest true d (suc j) f = stands_later s name k i h hs x (rest j f)
+  go rest false d j f = stands_later s name k i h hs x (rest j f)
 
 in_part_there : (s : Space) (name : Bytes) (k i : ℕ) (hs : List HeadSection) (n : ℕ) (h : HeadSection) → slice_get hs n ≡ Some h → declares s name h.content ≡ true
     → (j : ℕ) × (y : Spot) × (slice_get (spots_in_part s name k i hs) j ≡ Some y) × (y.part ≡ k) × (y.section ≡ i + n)
 in_part_there s name k i [] n h e d = cc
-in_part_there s name k i (g ∷ hs) n h e d = go (declares s name g.content) refl n e where
+in_part_there s name k i (g ∷ hs) n h e d = go (λ m at. in_part_there s name k (suc i) hs m h at d) (declares s name g.content) refl n e where
   same : {x y : HeadSection} → Some x ≡ Some y → x ≡ y
   same f = cc
-  go : (b : Bool) → declares s name g.content ≡ b → (n : ℕ) → slice_get (g ∷ hs) n ≡ Some h
+  go : ((n : ℕ) → slice_get hs n ≡ Some h → (j : ℕ) × (y : Spot) × (slice_get (spots_in_part s name k (suc i) hs) j ≡ Some y) × (y.part ≡ k) × (y.section ≡ suc i + n))
+    → (b : Bool) → declares s name g.content ≡ b → (n : ℕ) → slice_get (g ∷ hs) n ≡ Some h
     → (j : ℕ) × (y : Spot) × (slice_get (cond b (record { part = k; section = i } ∷ spots_in_part s name k (suc i) hs) (spots_in_part s name k (suc i) hs)) j ≡ Some y) × (y.part ≡ k) × (y.section ≡ i + n)
-  go true f zero at = (0, record { part = k; section = i }, refl, refl, omega arith)
-  go true f (suc n) at = let r = in_part_there s name k (suc i) hs n h at d in (suc r.0, r.1, r.2, r.3, (let q = r.4 in omega (arith, q)))
-  go false f zero at = absurd (no (sym f ∙ (ap (λ x. declares s name x.content) (same at) ∙ d))) where
+  go rest true f zero at = (0, record { part = k; section = i }, refl, refl, omega arith)
+  go rest true f (suc n) at = let r = rest n at in (suc r.0, r.1, r.2, r.3, (let q = r.4 in omega (arith, q)))
+  go rest false f zero at = absurd (no (sym f ∙ (ap (λ x. declares s name x.content) (same at) ∙ d))) where
     no : false ≡ true → ⊥
     no z = cc
-  go false f (suc n) at = let r = in_part_there s name k (suc i) hs n h at d in (r.0, r.1, r.2, r.3, (let q = r.4 in omega (arith, q)))
+  go rest false f (suc n) at = let r = rest n at in (r.0, r.1, r.2, r.3, (let q = r.4 in omega (arith, q)))
 
 in_part_ordered : (s : Space) (name : Bytes) (k i : ℕ) (hs : List HeadSection) (j m : ℕ) (x y : Spot) → slice_get (spots_in_part s name k i hs) j ≡ Some x → slice_get (spots_in_part s name k i hs) m ≡ Some y → j < m → x.section < y.section
 in_part_ordered s name k i [] j m x y e f below = cc
-in_part_ordered s name k i (h ∷ hs) j m x y e f below = go (declares s name h.content) j m e f below where
-  rest : List Spot
-  rest = spots_in_part s name k (suc i) hs
-  go : (b : Bool) (j m : ℕ) → slice_get (cond b (record { part = k; section = i } ∷ spots_in_part s name k (suc i) hs) (spots_in_part s name k (suc i) hs)) j ≡ Some x
-    → slice_get (cond b (record { part = k; section = i } ∷ spots_in_part s name k (suc i) hs) (spots_in_part s name k (suc i) hs)) m ≡ Some y → j < m → x.section < y.section
+in_part_ordered s name k i (h ∷ hs) j m x y e f below =
+    go (λ a b. in_part_ordered s name k (suc i) hs a b x y) (λ b g. let q = (in_part s name k (suc i) hs b y g).section_is in omega (arith, q)) (declares s name h.content) j m e f below where
   first : Some (record { part = k; section = i }) ≡ Some x → x.section ≡ i
-  first f = cc
-  go true j zero e f below = absurd (omega (arith, below))
-  go true zero (suc m) e f below = let r = (in_part s name k (suc i) hs m y f).section_is in let q = first e in omega (arith, r, q)
-  go true (suc j) (suc m) e f below = in_part_ordered s name k (suc i) hs j m x y e f (omega (arith, below))
-  go false j m e f below = in_part_ordered s name k (suc i) hs j m x y e f below
+  first g = cc
+  go : ((a b : ℕ) → slice_get (spots_in_part s name k (suc i) hs) a ≡ Some x → slice_get (spots_in_part s name k (suc i) hs) b ≡ Some y → a < b → x.section < y.section)
+    → ((b : ℕ) → slice_get (spots_in_part s name k (suc i) hs) b ≡ Some y → i < y.section)
+    → (b : Bool) (j m : ℕ) → slice_get (cond b (record { part = k; section = i } ∷ spots_in_part s name k (suc i) hs) (spots_in_part s name k (suc i) hs)) j ≡ Some x
+    → slice_get (cond b (record { part = k; section = i } ∷ spots_in_part s name k (suc i) hs) (spots_in_part s name k (suc i) hs)) m ≡ Some y → j < m → x.section < y.section
+  go rest later true j zero e f below = absurd (omega (arith, below))
+  go rest later true zero (suc m) e f below = let r = later m f in let q = first e in omega (arith, r, q)
+  go rest later true (suc j) (suc m) e f below = rest j m e f (omega (arith, below))
+  go rest later false j m e f below = rest j m e f below
 
 -- ---- all parts
 
@@ -150,18 +150,18 @@ in_parts_there s name k (p ∷ ps) (suc n) i h e d =
 in_parts_ordered : (s : Space) (name : Bytes) (k : ℕ) (ps : List Part) (j m : ℕ) (x y : Spot) → slice_get (spots_from s name k ps) j ≡ Some x → slice_get (spots_from s name k ps) m ≡ Some y → j < m → x.part ≡ y.part
     → x.section < y.section
 in_parts_ordered s name k [] j m x y e f below same = cc
-in_parts_ordered s name k (p ∷ ps) j m x y e f below same = go (slice_get-append own rest j x e) (slice_get-append own rest m y f) where
+in_parts_ordered s name k (p ∷ ps) j m x y e f below same = go (λ a b g h l. in_parts_ordered s name (suc k) ps a b x y g h l same) (slice_get-append own rest j x e) (slice_get-append own rest m y f) where
   own : List Spot
   own = spots_in_part s name k 0 p.sections
   rest : List Spot
   rest = spots_from s name (suc k) ps
   Is : ℕ → Spot → Type 0
   Is n z = (slice_get own n ≡ Some z) ⊎ ((o : ℕ) × (n ≡ length own + o) × (slice_get rest o ≡ Some z))
-  go : Is j x → Is m y → x.section < y.section
-  go (inl a) (inl b) = in_part_ordered s name k 0 p.sections j m x y a b below
-  go (inl a) (inr b) = absurd (let q = (in_part s name k 0 p.sections j x a).part_is in let r = (in_parts s name (suc k) ps b.0 y b.2).part_is in omega (arith, q, r, same))
-  go (inr a) (inl b) = absurd (let q = slice_get-short own m y b in let r = a.1 in omega (arith, q, r, below))
-  go (inr a) (inr b) = in_parts_ordered s name (suc k) ps a.0 b.0 x y a.2 b.2 (let q = a.1 in let r = b.1 in omega (arith, q, r, below)) same
+  go : ((a b : ℕ) → slice_get rest a ≡ Some x → slice_get rest b ≡ Some y → a < b → x.section < y.section) → Is j x → Is m y → x.section < y.section
+  go more (inl a) (inl b) = in_part_ordered s name k 0 p.sections j m x y a b below
+  go more (inl a) (inr b) = absurd (let q = (in_part s name k 0 p.sections j x a).part_is in let r = (in_parts s name (suc k) ps b.0 y b.2).part_is in omega (arith, q, r, same))
+  go more (inr a) (inl b) = absurd (let q = slice_get-short own m y b in let r = a.1 in omega (arith, q, r, below))
+  go more (inr a) (inr b) = more a.0 b.0 a.2 b.2 (let q = a.1 in let r = b.1 in omega (arith, q, r, below))
 
 -- ---- what they mean
 
