@@ -1,8 +1,9 @@
 -- Tables of declarations: what one more declaration makes of them.
-use Rattle.std.proofs.Common.{◌≡◌, ℕ, suc, ◌+◌, ◌<◌, ◌≤◌, ◌↔◌, inl, inr, Bool, true, false, ◌&&◌, cond, eqb, List, [], ◌∷◌, ◌++◌, length, take, get_or, Option, None, Some, Result, Ok, Err, OnOk, Bor, refl, ap, sym, ◌∙◌, subst, arith, zero-add, ltb, length-append, append_assoc}
+use Rattle.std.proofs.Common.{◌≡◌, ℕ, suc, ◌+◌, ◌<◌, ◌≤◌, ◌↔◌, inl, inr, Bool, true, false, not, ◌&&◌, cond, eqb, List, [], ◌∷◌, ◌++◌, length, take, get_or, Option, None, Some, Result, Ok, Err, OnOk, Bor, refl, ap, sym, ◌∙◌, subst, arith, zero-add, ltb, length-append, append_assoc}
 use Rattle.std.proofs.Math.Path.{fun_ext}
 use Rattle.std.proofs.lemmas.List.{append-nil, take_more, length-take-le}
 use Rattle.std.proofs.lemmas.List.Folds.{position_or_len_push}
+use Rattle.std.proofs.lemmas.List.Sums.{prefix_len-le-length}
 use Rattle.std.proofs.lemmas.List.Elements.{Contains-append_left, Contains-push, Contains-push_cases}
 use Rattle.std.proofs.lemmas.Map.Text.{btree_map_updates_str}
 use Rattle.std.proofs.lemmas.Slice.Eq.{bytes_eq-Decides}
@@ -11,9 +12,12 @@ use Rattle.std.specs.BTreeMap.{BTreeMap, get_by, UpdatesBy}
 use Rattle.std.specs.Cmp.Lexicographic.{slice_cmp}
 use Rattle.std.specs.declared.alloc.AllocError.{AllocError}
 use Rattle.std.specs.List.{Contains, position, position_or_len}
-use Rattle.std.specs.Option.{unwrap_or, option_or}
+use Rattle.std.specs.Option.{unwrap_or, option_or, is_some}
 use Rattle.std.specs.Ordering.{nat_cmp}
 use Rattle.std.specs.Str.{bytes_eq}
+use Rattle.vd_outline.specs.declared.outline.TextKind.{TextKind}
+use Rattle.vd_outline.specs.declared.outline.TextKind.TheVariants as text
+use Rattle.vd_heads.specs.declared.content.Content.{Content}
 use Rattle.vd_heads.specs.declared.content.HeadSection.{HeadSection}
 use Rattle.vd_heads.specs.declared.content.Part.{Part}
 use Rattle.vd_heads.specs.declared.table.Declarations.{Declarations}
@@ -21,8 +25,8 @@ use Rattle.vd_heads.specs.declared.table.Space.{Space}
 use Rattle.vd_heads.specs.declared.table.Space.TheVariants as space
 use Rattle.vd_heads.specs.declared.table.Spot.{Spot}
 use Rattle.vd_heads.specs.declared.table.Table.{Table}
-use Rattle.vd_heads.specs.Closure.{heads_interface, interface_at}
-use Rattle.vd_heads.specs.Declaration.{Bytes, same_space, declares}
+use Rattle.vd_heads.specs.Closure.{heads_interface, interface_name, interface_at}
+use Rattle.vd_heads.specs.Declaration.{Bytes, same_space, declaration, declares, is_that}
 use Rattle.vd_heads.specs.Views.{AreDeclarations, IsTable, in_space, interface_in, spots_in, shared_names, spots_in_part, spots_from, spots_of}
 
 -- what a map keyed by names has at a name
@@ -169,6 +173,21 @@ table_with space own is places t d name spot (Ok x) h spots shared =
         (subst (λ x. (other : Bytes) → spots_in x other ≡ cond (bytes_eq name other) (spots_in (in_space space t) other ++ spot ∷ []) (spots_in (in_space space t) other)) p spots)
         (subst (λ x. shared_names x ≡ cond (eqb (length (spots_in (in_space space t) name)) 1) (shared_names (in_space space t) ++ name ∷ []) (shared_names (in_space space t))) p shared))
 
+-- what a section declares, and nothing else
+pub declared_some : (content : Content) (space : Space) (name : Bytes) (places : Space → Bytes → List Spot) (spot : Spot) (t : Table) → declaration content ≡ Some (space, name)
+    → ((s : Space) → AreDeclarations (λ other. cond (same_space s space && bytes_eq name other) (places s other ++ spot ∷ []) (places s other)) (in_space s t))
+    → (s : Space) → AreDeclarations (λ other. cond (declares s other content) (places s other ++ spot ∷ []) (places s other)) (in_space s t)
+declared_some content space name places spot t e h s = subst (λ o. AreDeclarations (λ other. cond (is_that s other o) (places s other ++ spot ∷ []) (places s other)) (in_space s t)) (sym e) (h s)
+
+pub declared_none : (content : Content) (places : Space → Bytes → List Spot) (spot : Spot) (t : Table) → declaration content ≡ None → ((s : Space) → AreDeclarations (places s) (in_space s t))
+    → (s : Space) → AreDeclarations (λ other. cond (declares s other content) (places s other ++ spot ∷ []) (places s other)) (in_space s t)
+declared_none content places spot t e h s = subst (λ o. AreDeclarations (λ other. cond (is_that s other o) (places s other ++ spot ∷ []) (places s other)) (in_space s t)) (sym e) (h s)
+
+-- of a result that is no failure, what a fact says
+pub on_ok_more : {T E A B : Type 0} (r : Result T E) → (A → B) → OnOk r A → OnOk r B
+on_ok_more (Ok x) f a = f a
+on_ok_more (Err e) f a = tt
+
 pub spots_append : (s : Space) (name : Bytes) (k i : ℕ) (hs gs : List HeadSection) → spots_in_part s name k i (hs ++ gs) ≡ spots_in_part s name k i hs ++ spots_in_part s name k (i + length hs) gs
 spots_append s name k i [] gs = let e : i ≡ i + 0 = omega arith in ap (λ j. spots_in_part s name k j gs) e
 spots_append s name k i (h ∷ hs) gs = go (declares s name h.content) (spots_append s name k (suc i) hs gs ∙ ap (λ j. spots_in_part s name k (suc i) hs ++ spots_in_part s name k j gs) e) where
@@ -190,6 +209,16 @@ spots_next s name k n hs h below at =
   go true = refl
   go false = append-nil (spots_in_part s name k 0 (take n hs))
 
+-- what the sections up to one more declare
+pub sections_next : (places : Space → Bytes → List Spot) (k n : ℕ) (hs : List HeadSection) (h : HeadSection) (t : Table) → n < length hs → h ≡ get_or hs n h
+    → ((s : Space) → AreDeclarations (λ name. cond (declares s name h.content) ((places s name ++ spots_in_part s name k 0 (take n hs)) ++ record { part = k; section = n } ∷ []) (places s name ++ spots_in_part s name k 0 (take n hs))) (in_space s t))
+    → (s : Space) → AreDeclarations (λ name. places s name ++ spots_in_part s name k 0 (take (n + 1) hs)) (in_space s t)
+sections_next places k n hs h t below at all s = subst (λ f. AreDeclarations f (in_space s t)) (fun_ext (λ name. go (declares s name h.content) name ∙ ap (λ x. places s name ++ x) (sym (spots_next s name k n hs h below at)))) (all s) where
+  go : (b : Bool) (name : Bytes) → cond b ((places s name ++ spots_in_part s name k 0 (take n hs)) ++ record { part = k; section = n } ∷ []) (places s name ++ spots_in_part s name k 0 (take n hs))
+      ≡ places s name ++ cond b (spots_in_part s name k 0 (take n hs) ++ record { part = k; section = n } ∷ []) (spots_in_part s name k 0 (take n hs))
+  go true name = append_assoc (places s name) (spots_in_part s name k 0 (take n hs)) (record { part = k; section = n } ∷ [])
+  go false name = refl
+
 -- ---- one part after the other
 
 position_next : (m n k l : ℕ) (b : Bool) → k ≡ cond (eqb m n) (n + cond b 0 1) m → l ≡ n + 1 → m ≤ n → cond (ltb k l) (Some k) None ≡ option_or (cond (ltb m n) (Some m) None) (cond b (Some n) None)
@@ -197,7 +226,7 @@ position_next m n k l true e f g = grind (arith, nat_tests)
 position_next m n k l false e f g = grind (arith, nat_tests)
 
 pub position_more : {A : Type 0} (p : A → Bool) (xs : List A) (y : A) → position p (xs ++ y ∷ []) ≡ option_or (position p xs) (cond (p y) (Some (length xs)) None)
-position_more p xs y = position_next (position_or_len p xs) (length xs) (position_or_len p (xs ++ y ∷ [])) (length (xs ++ y ∷ [])) (p y) (position_or_len_push p xs y) (length-append xs (y ∷ [])) ?
+position_more p xs y = position_next (position_or_len p xs) (length xs) (position_or_len p (xs ++ y ∷ [])) (length (xs ++ y ∷ [])) (p y) (position_or_len_push p xs y) (length-append xs (y ∷ [])) (prefix_len-le-length (λ x. not (p x)) xs)
 
 pub spots_of_more : (parts : List Part) (p : Part) (s : Space) (name : Bytes) → spots_of (parts ++ p ∷ []) s name ≡ spots_of parts s name ++ spots_in_part s name (length parts) 0 p.sections
 spots_of_more parts p s name = go 0 parts ∙ ap (λ k. spots_of parts s name ++ spots_in_part s name k 0 p.sections) (zero-add (length parts)) where
@@ -208,15 +237,51 @@ spots_of_more parts p s name = go 0 parts ∙ ap (λ k. spots_of parts s name ++
       ap (λ x. spots_in_part s name k 0 q.sections ++ x) (go (suc k) ps ∙ ap (λ j. spots_from s name (suc k) ps ++ spots_in_part s name j 0 p.sections) e)
       ∙ sym (append_assoc (spots_in_part s name k 0 q.sections) (spots_from s name (suc k) ps) (spots_in_part s name (k + suc (length ps)) 0 p.sections))
 
-pub table_more : (parts : List Part) (p : Part) (old middle new : Table) (number : ℕ) → length parts ≡ number → IsTable parts old
-    → ((name : Bytes) → interface_in middle name ≡ option_or (interface_in old name) (cond (heads_interface name p.head) (Some number) None)) → ((s : Space) → in_space s middle ≡ in_space s old)
-    → new.interfaces ≡ middle.interfaces
-    → ((places : Space → Bytes → List Spot) → ((s : Space) → AreDeclarations (places s) (in_space s middle)) → (s : Space) → AreDeclarations (λ name. places s name ++ spots_in_part s name number 0 p.sections) (in_space s new))
+-- what the sections of a part add to the table of the parts before it
+pub table_more : (parts : List Part) (p : Part) (hs : List HeadSection) (old middle new : Table) (number : ℕ) → length parts ≡ number → hs ≡ p.sections → IsTable parts old
+    → ((name : Bytes) → interface_in middle name ≡ option_or (interface_in old name) (cond (heads_interface name p.head) (Some number) None)) → new.interfaces ≡ middle.interfaces
+    → ((s : Space) → AreDeclarations (λ name. spots_of parts s name ++ spots_in_part s name number 0 hs) (in_space s new))
     → IsTable (parts ++ p ∷ []) new
-table_more parts p old middle new number e h interfaces same kept sections = record {
-  declarations = λ s. subst (λ f. AreDeclarations f (in_space s new)) (fun_ext (λ name. ap (λ k. spots_of parts s name ++ spots_in_part s name k 0 p.sections) (sym e) ∙ sym (spots_of_more parts p s name)))
-      (sections (spots_of parts) (λ t. subst (AreDeclarations (spots_of parts t)) (sym (same t)) (h.declarations t)) s);
+table_more parts p hs old middle new number e f h interfaces kept sections = record {
+  declarations = λ s. subst (λ g. AreDeclarations g (in_space s new)) (fun_ext (λ name. ap (λ k. spots_of parts s name ++ spots_in_part s name k 0 hs) (sym e) ∙ (ap (λ x. spots_of parts s name ++ spots_in_part s name (length parts) 0 x) f ∙ sym (spots_of_more parts p s name))))
+      (sections s);
   interfaces = λ name. ap (λ m. get_by (λ k. slice_cmp nat_cmp name k.now) m) kept ∙ (interfaces name
       ∙ (ap (λ o. option_or o (cond (heads_interface name p.head) (Some number) None)) (h.interfaces name)
       ∙ (ap (λ k. option_or (interface_at parts name) (cond (heads_interface name p.head) (Some k) None)) (sym e) ∙ sym (position_more (λ q. heads_interface name q.head) parts p))));
 }
+
+-- the declarations of the parts, where the table's spaces stayed as they were
+pub declarations_kept : (parts : List Part) (old new : Table) → IsTable parts old → ((s : Space) → in_space s new ≡ in_space s old) → (s : Space) → AreDeclarations (spots_of parts s) (in_space s new)
+declarations_kept parts old new h same s = subst (AreDeclarations (spots_of parts s)) (sym (same s)) (h.declarations s)
+
+-- ---- interfaces
+
+named_so : Bytes → Option Bytes → Bool
+named_so other None = false
+named_so other (Some name) = bytes_eq name other
+
+heads_by_name : (other : Bytes) (head : Option (TextKind × Bytes)) → heads_interface other head ≡ named_so other (interface_name head)
+unfolding named_so
+heads_by_name other None = refl
+heads_by_name other (Some (text.Interface, name)) = refl
+heads_by_name other (Some (text.Unit, name)) = refl
+heads_by_name other (Some (text.Link, name)) = refl
+
+option_or-none : {A : Type 0} (o : Option A) → option_or o None ≡ o
+option_or-none None = refl
+option_or-none (Some x) = refl
+
+pub interface_put : (m n : BTreeMap (Bor Bytes) ℕ) (head : Option (TextKind × Bytes)) (number : ℕ) (name key : Bytes) → key ≡ name → interface_name head ≡ Some name → is_some (at_name m key) ≡ false → Changes key m n (Some number)
+    → (other : Bytes) → at_name n other ≡ option_or (at_name m other) (cond (heads_interface other head) (Some number) None)
+unfolding named_so
+interface_put m n head number name key k e has put other =
+    btree_map_updates_str key m n (Some number) put other ∙ (go (bytes_eq key other) refl (at_name m other) refl
+    ∙ ap (λ b. option_or (at_name m other) (cond b (Some number) None)) (ap (λ x. bytes_eq x other) k ∙ sym (heads_by_name other head ∙ ap (named_so other) e))) where
+  go : (b : Bool) → bytes_eq key other ≡ b → (o : Option ℕ) → at_name m other ≡ o → cond b (Some number) o ≡ option_or o (cond b (Some number) None)
+  go true f None g = refl
+  go true f (Some x) g = absurd (let same = (bytes_eq-Decides key other).0 f in let h : is_some (at_name m other) ≡ false = subst (λ x. is_some (at_name m x) ≡ false) same has in cc)
+  go false f o g = sym (option_or-none o)
+
+-- the parts up to one more
+pub part_next : (parts : List Part) (n : ℕ) (p : Part) (t : Table) → n < length parts → p ≡ get_or parts n p → IsTable (take n parts ++ p ∷ []) t → IsTable (take (n + 1) parts) t
+part_next parts n p t below at h = subst (λ x. IsTable x t) (sym (take_more parts n p below ∙ ap (λ x. take n parts ++ x ∷ []) (sym at))) h

@@ -3,7 +3,7 @@
 ghost use Rattle.std.specs.Prelude.{◌≡◌, ◌==◌, ◌++◌, ◌∷◌, ◌&&◌, List as Items, [], length, None, Some, option_map, if◌then◌else◌, IfOk, OnOk};
 ghost use Rattle.std.specs.Option.{option_or};
 ghost use Rattle.std.specs.Str.{bytes_eq};
-ghost use Rattle.vd_heads.specs.Declaration.{Bytes, declaration, same_space};
+ghost use Rattle.vd_heads.specs.Declaration.{Bytes, declaration, declares, same_space};
 
 use crate::content::{Content, HeadSection, Part};
 use std::alloc::{AllocError, Global};
@@ -157,6 +157,21 @@ impl<'a> Table<'a> {
         Ok(())
     }
 
+    fn add_section(
+        &mut self,
+        alloc: Global,
+        spot: Spot,
+        content: &'a Content,
+    ) -> Result<(), AllocError>
+        ensures declarations { (places : Space → Bytes → Items Spot) → ((s : Space) → AreDeclarations (places s) (in_space s self.old)) → OnOk result ((s : Space) → AreDeclarations (λ name. if declares s name content.now then places s name ++ spot ∷ [] else places s name) (in_space s self.new)) }
+        ensures interfaces { self.new.interfaces ≡ self.old.interfaces }
+    {
+        match declared(content) {
+            Some((space, name)) => self.add(alloc, space, name, spot),
+            None => Ok(()),
+        }
+    }
+
     fn add_sections(
         &mut self,
         alloc: Global,
@@ -167,13 +182,11 @@ impl<'a> Table<'a> {
         ensures interfaces { self.new.interfaces ≡ self.old.interfaces }
     {
         for (at, section) in sections.iter().enumerate() {
-            if let Some((space, name)) = declared(&section.content) {
-                let spot = Spot {
-                    part: number,
-                    section: at,
-                };
-                self.add(alloc, space, name, spot)?;
-            }
+            let spot = Spot {
+                part: number,
+                section: at,
+            };
+            self.add_section(alloc, spot, &section.content)?;
         }
         Ok(())
     }
