@@ -1,3 +1,7 @@
-pub mod HeldLaws
 mod HeadLaws
+pub mod HeldLaws
+pub mod Sets
+pub mod Closing
+pub mod Places
+pub mod Meanings
 mod TableLaws
