@@ -1,5 +1,5 @@
--- The scopes that head parts give, and what `scopes` answers.
-use Rattle.std.specs.Prelude.{◌≡◌, ◌≢◌, ℕ, suc, true, List, [], ◌∷◌, ◌++◌, flat_map, Option, None, Some, Result, Ok, Err, All}
+-- The scopes that head parts give.
+use Rattle.std.specs.Prelude.{◌≡◌, ◌≢◌, ℕ, suc, true, List, [], ◌∷◌, ◌++◌, flat_map, None, Some, All}
 use Rattle.vd_base.specs.declared.ctype.CType.{CType}
 use Rattle.vd_base.specs.declared.ctype.Field.{Field}
 use Rattle.vd_base.specs.Layout.{Table, are_fields, fields_of, refusal}
@@ -7,19 +7,14 @@ use Rattle.vd_base.specs.LayoutLaws.{IsMade}
 use Rattle.vd_clight.specs.declared.program.Signature.{Signature}
 use Rattle.vd_logic.specs.declared.assertion.PredDef.{PredDef}
 use Rattle.vd_logic.specs.declared.assertion.Spec.{Spec}
-use Rattle.vd_outline.specs.declared.outline.TextKind.{TextKind}
-use Rattle.vd_outline.specs.Outline.{HasHead}
 use Rattle.vd_heads.specs.declared.content.Content.{Content}
 use Rattle.vd_heads.specs.declared.content.Content.TheVariants as content
+use Rattle.vd_heads.specs.declared.content.HeadSection.{HeadSection}
 use Rattle.vd_heads.specs.declared.content.Part.{Part}
 use Rattle.vd_scopes.specs.declared.scope.Scopes.{Scopes}
 use Rattle.vd_heads.specs.declared.table.Space.TheVariants as space
-use Rattle.vd_scopes.specs.declared.verdict.HeadFault.{HeadFault}
-use Rattle.vd_scopes.specs.declared.verdict.HeadFault.TheVariants as fault
 use Rattle.vd_heads.specs.Closure.{Reaches, Means}
 use Rattle.vd_heads.specs.Declaration.{Bytes}
-use Rattle.vd_scopes.specs.Failing.{Accepts, Refuses}
-use Rattle.vd_scopes.specs.Head.{AreParts}
 
 -- ---- what sections declare
 
@@ -71,39 +66,20 @@ pub record AreScopes (parts : List Part) (scopes : Scopes) : Type 0 where
   pub predicates : scopes.logic.preds ≡ declared_in preds_in closure
   pub specifications : scopes.logic.specs ≡ declared_in specs_in closure
 
--- ---- answers
+-- ---- how they are made
 
-abbrev pub HasSomeHead : Bytes → Type 0
-HasSomeHead text = (kind : TextKind) × (name : Bytes) × HasHead text kind name
+-- What the sections declare, but for structs, is added to scopes.
+pub record Adds (sections : List HeadSection) (old new : Scopes) : Type 0 where
+  pub structs : new.c.structs ≡ old.c.structs
+  pub globals : new.c.globals ≡ old.c.globals ++ flat_map (λ h. globals_in h.content) sections
+  pub functions : new.c.fns ≡ old.c.fns ++ flat_map (λ h. signatures_in h.content) sections
+  pub predicates : new.logic.preds ≡ old.logic.preds ++ flat_map (λ h. preds_in h.content) sections
+  pub specifications : new.logic.specs ≡ old.logic.specs ++ flat_map (λ h. specs_in h.content) sections
 
--- The last text is that of header lines: it is not the first, and has no head line.
-pub record HasLines (texts front : List Bytes) (lines : Bytes) : Type 0 where
-  pub cut : texts ≡ front ++ lines ∷ []
-  pub behind : front ≢ []
-  pub headless : HasSomeHead lines → ⊥
-
--- texts in front of the one with header lines, and that text, where there is one
-abbrev pub IsSplit : List Bytes → List Bytes → Option Bytes → Type 0
-IsSplit texts front None = (front ≡ texts) × ((before : List Bytes) (last : Bytes) → HasLines texts before last → ⊥)
-IsSplit texts front (Some lines) = HasLines texts front lines
-
--- What texts say as the inputs of a work: head parts, and behind them the header lines of the own text's other sections, where the last text has no head line.
-pub record AreInputs (texts : List Bytes) (parts : List Part) (lines : Option Bytes) : Type 0 where
-  pub front : List Bytes
-  pub split : IsSplit texts front lines
-  pub are : AreParts front parts
-
--- what is answered of inputs, unless memory fails
-abbrev pub Answers : List Part → Option Bytes → Result Scopes HeadFault → Type 0
-Answers parts lines (Ok scopes) = Accepts parts lines × AreScopes parts scopes
-Answers parts lines (Err (fault.Refused place condition)) = Refuses parts lines condition place
-Answers parts lines (Err (fault.Memory error)) = Unit {0}
-
--- what is answered of texts
-abbrev pub AnswersTexts : List Bytes → Result Scopes HeadFault → Type 0
-AnswersTexts texts answer = (parts : List Part) (lines : Option Bytes) → AreInputs texts parts lines → Answers parts lines answer
-
--- unless memory fails, the texts say something
-abbrev pub SaySomething : List Bytes → Result Scopes HeadFault → Type 0
-SaySomething texts (Err (fault.Memory error)) = Unit {0}
-SaySomething texts _ = (parts : List Part) × (lines : Option Bytes) × AreInputs texts parts lines
+-- What one section declares is.
+pub record AddsOne (c : Content) (old new : Scopes) : Type 0 where
+  pub structs : new.c.structs ≡ old.c.structs
+  pub globals : new.c.globals ≡ old.c.globals ++ globals_in c
+  pub functions : new.c.fns ≡ old.c.fns ++ signatures_in c
+  pub predicates : new.logic.preds ≡ old.logic.preds ++ preds_in c
+  pub specifications : new.logic.specs ≡ old.logic.specs ++ specs_in c

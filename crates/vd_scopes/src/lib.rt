@@ -3,6 +3,7 @@
 
 mod contents;
 mod scope;
+mod structs;
 mod verdict;
 
 pub use scope::Scopes;

@@ -1,15 +1,16 @@
 //! The scopes that head parts give.
 
-ghost use Rattle.std.specs.Prelude.{◌≡◌, [], IfOk, OnOk};
-ghost use Rattle.vd_scopes.specs.Scope.{AreScopes, HasStructs};
-ghost use Rattle.vd_heads.specs.Views.{IsView};
+ghost use Rattle.std.specs.Prelude.{◌≡◌, ◌++◌, [], true, false, cond, IfOk, OnOk};
+ghost use Rattle.vd_heads.specs.Closure.{IsUnambiguous};
+ghost use Rattle.vd_heads.specs.Views.{IsView, is_marked};
+ghost use Rattle.vd_scopes.specs.Scope.{Adds, AddsOne, AreScopes, globals_in, preds_in, signatures_in, specs_in};
 
+use crate::structs::structs_of;
 use std::alloc::{AllocError, Global};
-use vd_base::{CType, Field, LayoutFault, List, Name, Structs, are_fields, copy_fields};
+use vd_base::{CType, Field, List, Name, copy_fields};
 use vd_clight::{CScope, Signature};
+use vd_heads::{Content, HeadSection, Part, View};
 use vd_logic::{Assertion, LScope, PredDef, Sort, Spec};
-use vd_heads::{Content, HeadSection, View};
-use vd_sized::{Order, StructSeen};
 
 /// What the sections of a text see: of C, and of the logic. Declarations stand in the order of the parts, the own part
 /// first; of two of one name the first counts.
@@ -67,75 +68,121 @@ fn abstract_pred(alloc: Global, name: &Name, sorts: &[Sort]) -> Result<PredDef, 
     })
 }
 
+fn put_globals(
+    alloc: Global,
+    globals: &mut List<(Name, CType)>,
+    content: &Content,
+) -> Result<(), AllocError>
+    ensures { OnOk result (globals.new ≡ globals.old ++ globals_in content.now) }
+{
+    match content {
+        Content::Global(field, _) => globals.push(copy_global(alloc, field)?),
+        Content::Uses(_)
+        | Content::Exports(_)
+        | Content::Struct(_, _)
+        | Content::Abstract(_, _, _)
+        | Content::Pred(_, _)
+        | Content::Spec(_, _)
+        | Content::Unread(_) => Ok(()),
+    }
+}
+
+fn put_signatures(
+    alloc: Global,
+    fns: &mut List<Signature>,
+    content: &Content,
+) -> Result<(), AllocError>
+    ensures { OnOk result (fns.new ≡ fns.old ++ signatures_in content.now) }
+{
+    match content {
+        Content::Spec(spec, _) => fns.push(signature_of(alloc, spec)?),
+        Content::Uses(_)
+        | Content::Exports(_)
+        | Content::Struct(_, _)
+        | Content::Global(_, _)
+        | Content::Abstract(_, _, _)
+        | Content::Pred(_, _)
+        | Content::Unread(_) => Ok(()),
+    }
+}
+
+fn put_preds(alloc: Global, preds: &mut List<PredDef>, content: &Content) -> Result<(), AllocError>
+    ensures { OnOk result (preds.new ≡ preds.old ++ preds_in content.now) }
+{
+    match content {
+        Content::Abstract(name, sorts, _) => {
+            preds.push(abstract_pred(alloc, name, sorts.as_slice())?)
+        }
+        Content::Pred(pred, _) => preds.push(copy_pred(alloc, pred)?),
+        Content::Uses(_)
+        | Content::Exports(_)
+        | Content::Struct(_, _)
+        | Content::Global(_, _)
+        | Content::Spec(_, _)
+        | Content::Unread(_) => Ok(()),
+    }
+}
+
+fn put_specs(alloc: Global, specs: &mut List<Spec>, content: &Content) -> Result<(), AllocError>
+    ensures { OnOk result (specs.new ≡ specs.old ++ specs_in content.now) }
+{
+    match content {
+        Content::Spec(spec, _) => specs.push(spec.copy(alloc)?),
+        Content::Uses(_)
+        | Content::Exports(_)
+        | Content::Struct(_, _)
+        | Content::Global(_, _)
+        | Content::Abstract(_, _, _)
+        | Content::Pred(_, _)
+        | Content::Unread(_) => Ok(()),
+    }
+}
+
 /// Adds what a section declares, but for structs.
-fn put_section(
+fn put_section(alloc: Global, scopes: &mut Scopes, content: &Content) -> Result<(), AllocError>
+    ensures { OnOk result (AddsOne content.now scopes.old scopes.new) }
+{
+    put_globals(alloc, &mut scopes.c.globals, content)?;
+    put_signatures(alloc, &mut scopes.c.fns, content)?;
+    put_preds(alloc, &mut scopes.logic.preds, content)?;
+    put_specs(alloc, &mut scopes.logic.specs, content)
+}
+
+fn put_sections(
     alloc: Global,
     scopes: &mut Scopes,
-    section: &HeadSection,
-) -> Result<(), AllocError> {
-    match &section.content {
-        Content::Global(field, _) => scopes.c.globals.push(copy_global(alloc, field)?),
-        Content::Abstract(name, sorts, _) => {
-            let pred = abstract_pred(alloc, name, sorts.as_slice())?;
-            scopes.logic.preds.push(pred)
-        }
-        Content::Pred(pred, _) => scopes.logic.preds.push(copy_pred(alloc, pred)?),
-        Content::Spec(spec, _) => {
-            scopes.c.fns.push(signature_of(alloc, spec)?)?;
-            scopes.logic.specs.push(spec.copy(alloc)?)
-        }
-        Content::Uses(_) | Content::Exports(_) | Content::Struct(_, _) | Content::Unread(_) => {
-            Ok(())
-        }
-    }
-}
-
-/// Adds a struct that has a layout over those that are there.
-fn put_struct(
-    alloc: Global,
-    structs: &mut Structs,
-    known: StructSeen<'_>,
-) -> Result<(), AllocError> {
-    if !are_fields(known.fields) {
-        return Ok(());
-    }
-    let mut fields = List::new(alloc);
-    for field in known.fields {
-        fields.push(field.copy(alloc)?)?;
-    }
-    match structs.add(known.name.copy(alloc)?, fields) {
-        Err(LayoutFault::Memory(fault)) => Err(fault),
-        Ok(()) | Err(_) => Ok(()),
-    }
-}
-
-/// The structs that a part sees and that have a layout.
-fn structs_of(alloc: Global, view: &View<'_>) -> Result<Structs, AllocError>
-    requires view { IsView view.now }
-    requires own { view.now.own ≡ 0 }
-    ensures { IfOk result (HasStructs view.now.parts.now) }
+    sections: &[HeadSection],
+) -> Result<(), AllocError>
+    ensures { OnOk result (Adds sections.now scopes.old scopes.new) }
 {
-    let mut order = Order::new(alloc);
-    for (number, part) in view.parts.iter().enumerate() {
-        if view.sees(number) {
-            for section in part.sections.as_slice() {
-                if let Content::Struct(name, _) = &section.content {
-                    order.add(alloc, view, name)?;
-                }
-            }
-        }
+    for section in sections {
+        put_section(alloc, scopes, &section.content)?;
     }
-    let mut structs = Structs::new(alloc);
-    for known in order.structs.as_slice() {
-        put_struct(alloc, &mut structs, *known)?;
+    Ok(())
+}
+
+/// Adds what a part declares, where it is seen.
+fn put_part(
+    alloc: Global,
+    scopes: &mut Scopes,
+    view: &View<'_>,
+    number: usize,
+    part: &Part,
+) -> Result<(), AllocError>
+    ensures { OnOk result (Adds (cond (is_marked view.now.closure.items number) part.now.sections []) scopes.old scopes.new) }
+{
+    if view.sees(number) {
+        put_sections(alloc, scopes, part.sections.as_slice())
+    } else {
+        Ok(())
     }
-    Ok(structs)
 }
 
 /// The scopes of what a part sees.
 pub(crate) fn scopes_of(alloc: Global, view: &View<'_>) -> Result<Scopes, AllocError>
     requires view { IsView view.now }
     requires own { view.now.own ≡ 0 }
+    requires one { IsUnambiguous view.now.parts.now 0 }
     ensures { IfOk result (AreScopes view.now.parts.now) }
 {
     let structs = structs_of(alloc, view)?;
@@ -151,11 +198,7 @@ pub(crate) fn scopes_of(alloc: Global, view: &View<'_>) -> Result<Scopes, AllocE
         },
     };
     for (number, part) in view.parts.iter().enumerate() {
-        if view.sees(number) {
-            for section in part.sections.as_slice() {
-                put_section(alloc, &mut scopes, section)?;
-            }
-        }
+        put_part(alloc, &mut scopes, view, number, part)?;
     }
     Ok(scopes)
 }

@@ -4,7 +4,7 @@ ghost use Rattle.std.specs.Prelude.{◌≡◌, ℕ, IfOk, MatchOption, Option, o
 ghost use Rattle.vd_heads.specs.declared.content.Part.{Part as Parted};
 ghost use Rattle.vd_scopes.specs.Failing as failing;
 ghost use Rattle.vd_scopes.specs.Head as head;
-ghost use Rattle.vd_scopes.specs.Scope.{AnswersTexts, SaySomething, IsSplit};
+ghost use Rattle.vd_scopes.specs.Answers.{AnswersTexts, SaySomething, IsSplit};
 ghost use Rattle.vd_heads.specs.Views.{IsTable, IsView};
 
 use crate::contents::part_of;
