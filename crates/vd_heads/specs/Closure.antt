@@ -1,5 +1,5 @@
 -- The closure of a part: itself, and the interfaces reached by what it exports and uses. A cycle is ordinary.
-use Rattle.std.specs.Prelude.{◌≡◌, ◌⊎◌, ◌<◌, ℕ, Bool, true, false, if◌then◌else◌, List, Option, None, Some, slice_get, position}
+use Rattle.std.specs.Prelude.{◌≡◌, ◌⊎◌, ◌<◌, ℕ, Bool, true, false, if◌then◌else◌, List, [], Option, None, Some, slice_get, position}
 use Rattle.std.specs.List.{list_any}
 use Rattle.std.specs.Str.{bytes_eq}
 use Rattle.vd_outline.specs.declared.outline.TextKind.{TextKind}
@@ -20,6 +20,11 @@ abbrev pub is_unit : TextKind → Bool
 is_unit text.Unit = true
 is_unit _ = false
 
+-- the name of the interface that a head line is of
+abbrev pub interface_name : Option (TextKind × Bytes) → Option Bytes
+interface_name None = None
+interface_name (Some head) = if is_interface head.0 then Some head.1 else None
+
 -- the head line is that of an interface of this name
 abbrev pub heads_interface : Bytes → Option (TextKind × Bytes) → Bool
 heads_interface name None = false
@@ -32,15 +37,20 @@ interface_at parts name = position (λ p. heads_interface name p.head) parts
 abbrev pub lists : Bytes → List Mention → Bool
 lists name mentions = list_any (λ m. bytes_eq m.name name) mentions
 
--- whether a section exports a name, and whether it exports or uses it
+-- the names that a section exports, and those that it exports or uses
+abbrev pub exported : Content → List Mention
+exported (content.Exports mentions) = mentions
+exported _ = []
+
+abbrev pub mentioned : Content → List Mention
+mentioned (content.Uses mentions) = mentions
+mentioned c = exported c
+
 abbrev pub exports_name : Bytes → Content → Bool
-exports_name name (content.Exports mentions) = lists name mentions
-exports_name name _ = false
+exports_name name c = lists name (exported c)
 
 abbrev pub mentions_name : Bytes → Content → Bool
-mentions_name name (content.Uses mentions) = lists name mentions
-mentions_name name (content.Exports mentions) = lists name mentions
-mentions_name name _ = false
+mentions_name name c = lists name (mentioned c)
 
 module _ (parts : List Part) where
   -- The part of number k exports or uses the interface of number n.

@@ -19,14 +19,23 @@ same_space space.Function space.Function = true
 same_space space.Predicate space.Predicate = true
 same_space _ _ = false
 
+-- the name space and the name of what a section declares
+abbrev pub declaration : Content → Option (Space × Bytes)
+declaration (content.Struct own fields) = Some (space.Struct, own)
+declaration (content.Global field init) = Some (space.Global, field.name)
+declaration (content.Abstract own sorts twice) = Some (space.Predicate, own)
+declaration (content.Pred pred twice) = Some (space.Predicate, pred.name)
+declaration (content.Spec spec twice) = Some (space.Function, spec.name)
+declaration _ = None
+
+-- whether that is the name in this name space
+abbrev pub is_that : Space → Bytes → Option (Space × Bytes) → Bool
+is_that s name None = false
+is_that s name (Some d) = same_space s d.0 && bytes_eq d.1 name
+
 -- whether a section declares a name
 abbrev pub declares : Space → Bytes → Content → Bool
-declares s name (content.Struct own fields) = same_space s space.Struct && bytes_eq own name
-declares s name (content.Global field init) = same_space s space.Global && bytes_eq field.name name
-declares s name (content.Abstract own sorts twice) = same_space s space.Predicate && bytes_eq own name
-declares s name (content.Pred pred twice) = same_space s space.Predicate && bytes_eq pred.name name
-declares s name (content.Spec spec twice) = same_space s space.Function && bytes_eq spec.name name
-declares s name _ = false
+declares s name c = is_that s name (declaration c)
 
 -- a section of a part among others, both by their numbers from 0
 abbrev pub section_at : List Part → ℕ → ℕ → Option HeadSection

@@ -5,3 +5,4 @@ pub mod Held
 pub mod Assertions
 pub mod Least
 pub mod Views
+pub mod PartSet

@@ -1,5 +1,6 @@
 -- What the code keeps of parts, and of what one of them sees.
-use Rattle.std.specs.Prelude.{◌≡◌, ◌≤◌, ◌<◌, ◌↔◌, ℕ, suc, Bool, true, false, cond, List, [], ◌∷◌, ◌++◌, length, Some, slice_get, option_map, unwrap_or}
+use Rattle.std.specs.Prelude.{◌≡◌, ◌≤◌, ◌<◌, ◌↔◌, ℕ, suc, Bool, true, false, cond, List, [], ◌∷◌, ◌++◌, length, map, Option, slice_get, unwrap_or}
+use Rattle.std.specs.List.{Contains}
 use Rattle.std.specs.BTreeMap.{get_by}
 use Rattle.std.specs.Cmp.Lexicographic.{slice_cmp}
 use Rattle.std.specs.Ordering.{nat_cmp}
@@ -38,19 +39,27 @@ in_space space.Global t = t.globals
 in_space space.Function t = t.functions
 in_space space.Predicate t = t.predicates
 
+-- what the table says is the number of the interface of a name
+abbrev pub interface_in : Table → Bytes → Option ℕ
+interface_in t name = get_by (λ k. slice_cmp nat_cmp name k.now) t.interfaces
+
 -- where the table says that a name is declared
 abbrev pub spots_in : Declarations → Bytes → List Spot
 spots_in d name = unwrap_or (get_by (λ k. slice_cmp nat_cmp name k.now) d.by_name) []
 
--- The declarations of a name space in so many parts.
-pub record AreDeclarations (parts : List Part) (s : Space) (d : Declarations) : Type 0 where
-  pub spots : (name : Bytes) → spots_in d name ≡ spots_of parts s name
-  pub shared : (name : Bytes) → ((k : ℕ) × (k < length d.shared) × (option_map (λ n. n.now) (slice_get d.shared k) ≡ Some name)) ↔ (2 ≤ length (spots_of parts s name))
+-- the names that the table keeps as those that stand more than once
+abbrev pub shared_names : Declarations → List Bytes
+shared_names d = map (λ n. n.now) d.shared
+
+-- The table says of each name that it is declared there.
+pub record AreDeclarations (places : Bytes → List Spot) (d : Declarations) : Type 0 where
+  pub spots : (name : Bytes) → spots_in d name ≡ places name
+  pub shared : (name : Bytes) → Contains (shared_names d) name ↔ (2 ≤ length (places name))
 
 -- The table is that of the parts.
 pub record IsTable (parts : List Part) (t : Table) : Type 0 where
-  pub declarations : (s : Space) → AreDeclarations parts s (in_space s t)
-  pub interfaces : (name : Bytes) → get_by (λ k. slice_cmp nat_cmp name k.now) t.interfaces ≡ interface_at parts name
+  pub declarations : (s : Space) → AreDeclarations (spots_of parts s) (in_space s t)
+  pub interfaces : (name : Bytes) → interface_in t name ≡ interface_at parts name
 
 -- ---- views
 

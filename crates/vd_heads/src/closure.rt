@@ -1,58 +1,135 @@
 //! The closure of a part: itself, and the interfaces that what is in it exports or uses.
 
-ghost use Rattle.std.specs.Prelude.{◌≡◌, ◌<◌, ◌↔◌, ℕ, [], ◌∷◌, true, false, length, IfOk};
-ghost use Rattle.std.specs.List.{repeat};
-ghost use Rattle.vd_heads.specs.Closure.{Reaches, Exports};
-ghost use Rattle.vd_heads.specs.Views.{IsTable, is_marked};
+ghost use Rattle.std.specs.Prelude.{◌≡◌, ◌<◌, ◌↔◌, ℕ, true, Some, length, slice_get, IfOk, OnOk};
+ghost use Rattle.vd_heads.specs.Closure.{Reaches, Exports, Mentions, exported, mentioned};
+ghost use Rattle.vd_heads.specs.PartSet.{Adds, IsMentioned, IsMentionedBelow, IsPartSet};
+ghost use Rattle.vd_heads.specs.Views.{IsTable, interface_in, is_marked};
 
-use crate::content::{Content, Mention, Part};
+use crate::content::{Content, HeadSection, Mention, Part};
+use crate::part_set::PartSet;
 use crate::table::Table;
 use std::alloc::{AllocError, Global};
+use vd_base::Name;
 
-/// For each part whether it is in a set.
-pub fn no_parts(alloc: Global, count: usize) -> Result<Vec<bool>, AllocError>
-    ensures { IfOk result (λ marks. marks.items ≡ repeat count (false ∷ [])) }
+/// The names that a section exports.
+fn exported(content: &Content) -> &[Mention]
+    ensures { result.now ≡ exported content.now }
 {
-    let mut marks = Vec::new(alloc);
-    for _ in 0..count {
-        marks.push(false)?;
+    match content {
+        Content::Exports(names) => names.as_slice(),
+        Content::Uses(_)
+        | Content::Struct(_, _)
+        | Content::Global(_, _)
+        | Content::Abstract(_, _, _)
+        | Content::Pred(_, _)
+        | Content::Spec(_, _)
+        | Content::Unread(_) => &[],
     }
-    Ok(marks)
 }
 
-/// Marks the interfaces that are mentioned, and lists those that were not marked before.
-pub fn mark(
+/// The names that a section exports or uses.
+fn mentioned(content: &Content) -> &[Mention]
+    ensures { result.now ≡ mentioned content.now }
+{
+    match content {
+        Content::Uses(names) => names.as_slice(),
+        Content::Exports(_)
+        | Content::Struct(_, _)
+        | Content::Global(_, _)
+        | Content::Abstract(_, _, _)
+        | Content::Pred(_, _)
+        | Content::Spec(_, _)
+        | Content::Unread(_) => exported(content),
+    }
+}
+
+fn add_interface(table: &Table<'_>, name: &Name, set: &mut PartSet) -> Result<(), AllocError>
+    requires { IsPartSet set.old }
+    ensures { OnOk result (Adds (λ k. interface_in table.now name.now ≡ Some k) set.old set.new) }
+{
+    match table.interface(name) {
+        Some(number) => set.add(number),
+        None => Ok(()),
+    }
+}
+
+fn add_mentions(
     table: &Table<'_>,
     mentions: &[Mention],
-    marks: &mut Vec<bool>,
-    fresh: &mut Vec<usize>,
-) -> Result<(), AllocError> {
+    set: &mut PartSet,
+) -> Result<(), AllocError>
+    requires { IsPartSet set.old }
+    ensures { OnOk result (Adds (IsMentioned table.now mentions.now) set.old set.new) }
+{
     for mention in mentions {
-        if let Some(number) = table.interface(&mention.name) {
-            if number < marks.len() && !marks[number] {
-                marks[number] = true;
-                fresh.push(number)?;
-            }
-        }
+        add_interface(table, &mention.name, set)?;
     }
     Ok(())
 }
 
-fn mark_part(
+fn add_exported(
     table: &Table<'_>,
-    part: &Part,
-    marks: &mut Vec<bool>,
-    fresh: &mut Vec<usize>,
-) -> Result<(), AllocError> {
-    for section in part.sections.as_slice() {
-        match &section.content {
-            Content::Uses(names) | Content::Exports(names) => {
-                mark(table, names.as_slice(), marks, fresh)?
-            }
-            _ => {}
-        }
+    sections: &[HeadSection],
+    set: &mut PartSet,
+) -> Result<(), AllocError>
+    requires { IsPartSet set.old }
+    ensures { OnOk result (Adds (IsMentionedBelow table.now exported sections.now (length sections.now)) set.old set.new) }
+{
+    for section in sections {
+        add_mentions(table, exported(&section.content), set)?;
     }
     Ok(())
+}
+
+fn add_mentioned(
+    table: &Table<'_>,
+    sections: &[HeadSection],
+    set: &mut PartSet,
+) -> Result<(), AllocError>
+    requires { IsPartSet set.old }
+    ensures { OnOk result (Adds (IsMentionedBelow table.now mentioned sections.now (length sections.now)) set.old set.new) }
+{
+    for section in sections {
+        add_mentions(table, mentioned(&section.content), set)?;
+    }
+    Ok(())
+}
+
+/// Adds what the part of a number exports or uses.
+fn add_next(
+    parts: &[Part],
+    table: &Table<'_>,
+    number: usize,
+    set: &mut PartSet,
+) -> Result<(), AllocError>
+    requires table { IsTable parts.now table.now }
+    requires set { IsPartSet set.old }
+    ensures { OnOk result (Adds (Mentions parts.now number) set.old set.new) }
+{
+    match parts.get(number) {
+        Some(part) => add_mentioned(table, part.sections.as_slice(), set),
+        None => Ok(()),
+    }
+}
+
+/// Adds what the member at a place exports or uses.
+fn follow(
+    parts: &[Part],
+    table: &Table<'_>,
+    at: usize,
+    set: &mut PartSet,
+) -> Result<(), AllocError>
+    requires table { IsTable parts.now table.now }
+    requires set { IsPartSet set.old }
+    ensures { OnOk result (Adds (λ n. (k : ℕ) × (slice_get set.old.members.items at ≡ Some k) × Mentions parts.now k n) set.old set.new) }
+{
+    match set.members.get(at) {
+        Some(member) => {
+            let number = *member;
+            add_next(parts, table, number, set)
+        }
+        None => Ok(()),
+    }
 }
 
 /// The parts in the closure of a part.
@@ -65,18 +142,36 @@ pub fn closure_of(
     requires { IsTable parts.now table.now }
     ensures { IfOk result (λ marks. (k : ℕ) → (is_marked marks.items k ≡ true) ↔ ((k < length parts.now) × Reaches parts.now from k)) }
 {
-    let mut marks = no_parts(alloc, parts.len())?;
-    let mut open = Vec::new(alloc);
-    if from < marks.len() {
-        marks[from] = true;
-        open.push(from)?;
+    let mut set = PartSet::new(alloc, parts.len())?;
+    set.add(from)?;
+    for at in 0..parts.len() {
+        follow(parts, table, at, &mut set)?;
     }
-    while let Some(number) = open.pop() {
-        if let Some(part) = parts.get(number) {
-            mark_part(table, part, &mut marks, &mut open)?;
-        }
-    }
+    let PartSet { marks, members: _ } = set;
     Ok(marks)
+}
+
+/// Adds what a part exports, where it is a unit.
+fn add_exports(
+    parts: &[Part],
+    table: &Table<'_>,
+    of: usize,
+    set: &mut PartSet,
+) -> Result<(), AllocError>
+    requires table { IsTable parts.now table.now }
+    requires set { IsPartSet set.old }
+    ensures { OnOk result (Adds (Exports parts.now of) set.old set.new) }
+{
+    match parts.get(of) {
+        Some(part) => {
+            if part.is_unit() {
+                add_exported(table, part.sections.as_slice(), set)
+            } else {
+                Ok(())
+            }
+        }
+        None => Ok(()),
+    }
 }
 
 /// The interfaces that a unit exports.
@@ -89,18 +184,8 @@ pub fn exports_of(
     requires { IsTable parts.now table.now }
     ensures { IfOk result (λ marks. (n : ℕ) → (is_marked marks.items n ≡ true) ↔ Exports parts.now of n) }
 {
-    let mut marks = no_parts(alloc, parts.len())?;
-    let mut fresh = Vec::new(alloc);
-    let Some(part) = parts.get(of) else {
-        return Ok(marks);
-    };
-    if !part.is_unit() {
-        return Ok(marks);
-    }
-    for section in part.sections.as_slice() {
-        if let Content::Exports(names) = &section.content {
-            mark(table, names.as_slice(), &mut marks, &mut fresh)?;
-        }
-    }
+    let mut set = PartSet::new(alloc, parts.len())?;
+    add_exports(parts, table, of, &mut set)?;
+    let PartSet { marks, members: _ } = set;
     Ok(marks)
 }

@@ -1,5 +1,10 @@
 //! What head parts say.
 
+ghost use Rattle.std.specs.Prelude.{◌≡◌, ◌↔◌, Some, option_copied, IsTrue};
+ghost use Rattle.vd_heads.specs.Closure.{interface_name};
+ghost use Rattle.vd_heads.specs.Declaration.{Bytes};
+ghost use Rattle.vd_outline.specs.declared.outline.TextKind.TheVariants as text;
+
 use vd_base::{Field, List, Name};
 use vd_clight::Init;
 use vd_logic::{PredDef, Sort, Spec};
@@ -42,7 +47,9 @@ pub struct Part {
 
 impl Part {
     /// Whether it is that of an interface of this name.
-    pub fn interface(&self) -> Option<&Name> {
+    pub fn interface(&self) -> Option<&Name>
+        ensures { option_copied result ≡ interface_name self.now.head }
+    {
         match &self.head {
             Some((TextKind::Interface, name)) => Some(name),
             Some((TextKind::Unit, _)) | Some((TextKind::Link, _)) | None => None,
@@ -50,7 +57,9 @@ impl Part {
     }
 
     /// Whether it is that of a unit.
-    pub fn is_unit(&self) -> bool {
+    pub fn is_unit(&self) -> bool
+        ensures { IsTrue result ↔ ((name : Bytes) × (self.now.head ≡ Some (text.Unit, name))) }
+    {
         match &self.head {
             Some((TextKind::Unit, _)) => true,
             Some((TextKind::Interface, _)) | Some((TextKind::Link, _)) | None => false,

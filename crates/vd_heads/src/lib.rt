@@ -4,6 +4,7 @@
 mod closure;
 mod content;
 mod holding;
+mod part_set;
 mod parts;
 mod smallest;
 mod table;

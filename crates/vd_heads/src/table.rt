@@ -1,6 +1,11 @@
 //! Where names are declared.
 
-use crate::content::{Content, Part};
+ghost use Rattle.std.specs.Prelude.{◌≡◌, ◌==◌, ◌++◌, ◌∷◌, ◌&&◌, List as Items, [], length, None, Some, option_map, if◌then◌else◌, IfOk, OnOk};
+ghost use Rattle.std.specs.Option.{option_or};
+ghost use Rattle.std.specs.Str.{bytes_eq};
+ghost use Rattle.vd_heads.specs.Declaration.{Bytes, declaration, declares, same_space};
+
+use crate::content::{Content, HeadSection, Part};
 use std::alloc::{AllocError, Global};
 use std::collections::BTreeMap;
 use vd_base::{List, Name};
@@ -30,35 +35,47 @@ pub struct Declarations<'a> {
 }
 
 impl<'a> Declarations<'a> {
-    fn new(alloc: Global) -> Declarations<'a> {
+    ghost use Rattle.vd_heads.specs.Views.{spots_in, shared_names};
+
+    fn new(alloc: Global) -> Declarations<'a>
+        ensures spots { (name : Bytes) → spots_in result name ≡ [] }
+        ensures shared { shared_names result ≡ [] }
+    {
         Declarations {
             by_name: BTreeMap::new(alloc),
             shared: List::new(alloc),
         }
     }
 
-    fn add(&mut self, alloc: Global, name: &'a Name, spot: Spot) -> Result<(), AllocError> {
+    fn add(&mut self, alloc: Global, name: &'a Name, spot: Spot) -> Result<(), AllocError>
+        ensures spots { OnOk result ((other : Bytes) → spots_in self.new other ≡ (if bytes_eq name.now other then spots_in self.old other ++ spot ∷ [] else spots_in self.old other)) }
+        ensures shared { OnOk result (shared_names self.new ≡ (if length (spots_in self.old name.now) == 1 then shared_names self.old ++ name.now ∷ [] else shared_names self.old)) }
+    {
         let name = name.as_bytes();
-        if let Some(spots) = self.by_name.get_mut(name) {
-            if spots.len() == 1 {
-                self.shared.push(name)?;
-            }
-            return spots.push(spot);
+        let mut spots = match self.by_name.remove(name) {
+            Some(spots) => spots,
+            None => List::new(alloc),
+        };
+        if spots.len() == 1 {
+            self.shared.push(name)?;
         }
-        let mut spots = List::new(alloc);
         spots.push(spot)?;
         self.by_name.insert(name, spots)?;
         Ok(())
     }
 
-    pub fn spots(&self, name: &[u8]) -> &[Spot] {
+    pub fn spots(&self, name: &[u8]) -> &[Spot]
+        ensures { result.now ≡ spots_in self.now name.now }
+    {
         match self.by_name.get(name) {
             Some(spots) => spots.as_slice(),
             None => &[],
         }
     }
 
-    pub fn shared(&self) -> &[&'a [u8]] {
+    pub fn shared(&self) -> &[&'a [u8]]
+        ensures { result.now ≡ self.now.shared }
+    {
         self.shared.as_slice()
     }
 }
@@ -74,7 +91,9 @@ pub struct Table<'a> {
 }
 
 /// The name space and the name of what a section declares.
-pub fn declared(content: &Content) -> Option<(Space, &Name)> {
+pub fn declared(content: &Content) -> Option<(Space, &Name)>
+    ensures { option_map (λ d. (d.0, d.1.now)) result ≡ declaration content.now }
+{
     match content {
         Content::Struct(name, _) => Some((Space::Struct, name)),
         Content::Global(field, _) => Some((Space::Global, &field.name)),
@@ -86,7 +105,12 @@ pub fn declared(content: &Content) -> Option<(Space, &Name)> {
 }
 
 impl<'a> Table<'a> {
-    pub fn in_space(&self, space: Space) -> &Declarations<'a> {
+    ghost use Rattle.vd_heads.specs.Closure.{heads_interface};
+    ghost use Rattle.vd_heads.specs.Views.{AreDeclarations, IsTable, in_space, interface_in, spots_in_part};
+
+    pub fn in_space(&self, space: Space) -> &Declarations<'a>
+        ensures { result.now ≡ in_space space self.now }
+    {
         match space {
             Space::Struct => &self.structs,
             Space::Global => &self.globals,
@@ -95,40 +119,88 @@ impl<'a> Table<'a> {
         }
     }
 
-    fn in_space_mut(&mut self, space: Space) -> &mut Declarations<'a> {
-        match space {
-            Space::Struct => &mut self.structs,
-            Space::Global => &mut self.globals,
-            Space::Function => &mut self.functions,
-            Space::Predicate => &mut self.predicates,
-        }
-    }
-
     /// The number of the interface of a name.
-    pub fn interface(&self, name: &Name) -> Option<usize> {
+    pub fn interface(&self, name: &Name) -> Option<usize>
+        ensures { result ≡ interface_in self.now name.now }
+    {
         self.interfaces.get(name.as_bytes()).copied()
     }
 
-    fn add_part(&mut self, alloc: Global, number: usize, part: &'a Part) -> Result<(), AllocError> {
+    fn add(
+        &mut self,
+        alloc: Global,
+        space: Space,
+        name: &'a Name,
+        spot: Spot,
+    ) -> Result<(), AllocError>
+        ensures declarations { (places : Space → Bytes → Items Spot) → ((s : Space) → AreDeclarations (places s) (in_space s self.old)) → OnOk result ((s : Space) → AreDeclarations (λ other. if same_space s space && bytes_eq name.now other then places s other ++ spot ∷ [] else places s other) (in_space s self.new)) }
+        ensures interfaces { self.new.interfaces ≡ self.old.interfaces }
+    {
+        match space {
+            Space::Struct => self.structs.add(alloc, name, spot),
+            Space::Global => self.globals.add(alloc, name, spot),
+            Space::Function => self.functions.add(alloc, name, spot),
+            Space::Predicate => self.predicates.add(alloc, name, spot),
+        }
+    }
+
+    fn add_interface(&mut self, number: usize, part: &'a Part) -> Result<(), AllocError>
+        ensures interfaces { OnOk result ((name : Bytes) → interface_in self.new name ≡ option_or (interface_in self.old name) (if heads_interface name part.now.head then Some number else None)) }
+        ensures declarations { (s : Space) → in_space s self.new ≡ in_space s self.old }
+    {
         if let Some(name) = part.interface() {
             let name = name.as_bytes();
             if !self.interfaces.contains_key(name) {
                 self.interfaces.insert(name, number)?;
             }
         }
-        for (at, section) in part.sections.as_slice().iter().enumerate() {
-            if let Some((space, name)) = declared(&section.content) {
-                let spot = Spot {
-                    part: number,
-                    section: at,
-                };
-                self.in_space_mut(space).add(alloc, name, spot)?;
-            }
+        Ok(())
+    }
+
+    fn add_section(
+        &mut self,
+        alloc: Global,
+        spot: Spot,
+        content: &'a Content,
+    ) -> Result<(), AllocError>
+        ensures declarations { (places : Space → Bytes → Items Spot) → ((s : Space) → AreDeclarations (places s) (in_space s self.old)) → OnOk result ((s : Space) → AreDeclarations (λ name. if declares s name content.now then places s name ++ spot ∷ [] else places s name) (in_space s self.new)) }
+        ensures interfaces { self.new.interfaces ≡ self.old.interfaces }
+    {
+        match declared(content) {
+            Some((space, name)) => self.add(alloc, space, name, spot),
+            None => Ok(()),
+        }
+    }
+
+    fn add_sections(
+        &mut self,
+        alloc: Global,
+        number: usize,
+        sections: &'a [HeadSection],
+    ) -> Result<(), AllocError>
+        ensures declarations { (places : Space → Bytes → Items Spot) → ((s : Space) → AreDeclarations (places s) (in_space s self.old)) → OnOk result ((s : Space) → AreDeclarations (λ name. places s name ++ spots_in_part s name number 0 sections.now) (in_space s self.new)) }
+        ensures interfaces { self.new.interfaces ≡ self.old.interfaces }
+    {
+        for (at, section) in sections.iter().enumerate() {
+            let spot = Spot {
+                part: number,
+                section: at,
+            };
+            self.add_section(alloc, spot, &section.content)?;
         }
         Ok(())
     }
 
-    pub fn of(alloc: Global, parts: &'a [Part]) -> Result<Table<'a>, AllocError> {
+    fn add_part(&mut self, alloc: Global, number: usize, part: &'a Part) -> Result<(), AllocError>
+        ensures { (before : Items Part) → length before ≡ number → IsTable before self.old → OnOk result (IsTable (before ++ part.now ∷ []) self.new) }
+    {
+        self.add_interface(number, part)?;
+        self.add_sections(alloc, number, part.sections.as_slice())
+    }
+
+    pub fn of(alloc: Global, parts: &'a [Part]) -> Result<Table<'a>, AllocError>
+        ensures { IfOk result (IsTable parts.now) }
+    {
         let mut table = Table {
             structs: Declarations::new(alloc),
             globals: Declarations::new(alloc),

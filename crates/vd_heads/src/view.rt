@@ -1,6 +1,7 @@
 //! What a part sees.
 
-ghost use Rattle.std.specs.Prelude.{◌≡◌, ◌↔◌, [], true, slice_get, option_map, option_copied, unwrap_or, IfOk, IsTrue};
+ghost use Rattle.std.specs.Prelude.{◌≡◌, ◌==◌, ◌↔◌, [], true, slice_get, option_map, option_copied, unwrap_or, IfOk, IsTrue};
+ghost use Rattle.std.specs.List.{find};
 ghost use Rattle.vd_heads.specs.Closure.{IsUnit, Knows, MeansOption};
 ghost use Rattle.vd_heads.specs.Declaration.{section_at};
 ghost use Rattle.vd_heads.specs.Declaration.{sections_in};
@@ -102,17 +103,35 @@ impl<'a> View<'a> {
         self.table.in_space(space).spots(name)
     }
 
+    fn first_own(&self, spots: &[Spot]) -> Option<Spot>
+        ensures { result ≡ find (λ spot. spot.part == self.now.own) spots.now }
+    {
+        for spot in spots {
+            if spot.part == self.own {
+                return Some(*spot);
+            }
+        }
+        None
+    }
+
+    fn first_seen(&self, spots: &[Spot]) -> Option<Spot>
+        ensures { result ≡ find (λ spot. is_marked self.now.closure.items spot.part) spots.now }
+    {
+        for spot in spots {
+            if self.sees(spot.part) {
+                return Some(*spot);
+            }
+        }
+        None
+    }
+
     /// Whether a declaration of the name is seen.
     pub fn knows(&self, space: Space, name: &Name) -> bool
         requires { IsView self.now }
         ensures { IsTrue result ↔ Knows self.now.parts.now self.now.own space name.now }
     {
-        for spot in self.spots(space, name.as_bytes()) {
-            if self.sees(spot.part) {
-                return true;
-            }
-        }
-        false
+        self.first_seen(self.spots(space, name.as_bytes()))
+            .is_some()
     }
 
     /// What declares the name: the part itself where it does, else the first that is seen.
@@ -120,15 +139,13 @@ impl<'a> View<'a> {
         requires { IsView self.now }
         ensures { MeansOption self.now.parts.now self.now.own space name.now (option_copied result) }
     {
-        let mut first = None;
-        for spot in self.spots(space, name.as_bytes()) {
-            if spot.part == self.own {
-                return self.content_at(*spot);
-            }
-            if first.is_none() && self.sees(spot.part) {
-                first = self.content_at(*spot);
-            }
+        let spots = self.spots(space, name.as_bytes());
+        match self.first_own(spots) {
+            Some(own) => self.content_at(own),
+            None => match self.first_seen(spots) {
+                Some(seen) => self.content_at(seen),
+                None => None,
+            },
         }
-        first
     }
 }

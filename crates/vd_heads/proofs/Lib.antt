@@ -1,0 +1,7 @@
+mod HeadLaws
+pub mod HeldLaws
+pub mod Sets
+pub mod Closing
+pub mod Places
+pub mod Meanings
+mod TableLaws

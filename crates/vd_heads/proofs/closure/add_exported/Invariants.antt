@@ -1,0 +1,6 @@
+use Rattle.vd_heads.specs.Closure.{exported}
+use Rattle.vd_heads.specs.PartSet.{Adds, IsMentionedBelow}
+use Rattle.vd_heads.proofs.closure.add_exported.Given as goal
+
+abbrev pub invariant-loop-section : goal.invariant-loop-section
+invariant-loop-section l = Adds (IsMentionedBelow l.table exported l.sections l.section-index) l.fn.set l.set
