@@ -1,6 +1,6 @@
 -- Condition 4: sorts or types disagree, a field or global is void or an array of void, or initial values do not fit.
 use Rattle.std.specs.Prelude.{◌≡◌, ◌⊎◌, ℕ, Bool, true, false, not, ◌&&◌, List, [], ◌∷◌, map, Option, None, Some, ⊤}
-use Rattle.std.specs.List.{Contains, list_all}
+use Rattle.std.specs.List.{Any, list_all}
 use Rattle.vd_base.specs.declared.ctype.Field.{Field}
 use Rattle.vd_base.specs.Layout.{is_void, are_fields}
 use Rattle.vd_logic.specs.declared.assertion.Assertion.{Assertion}
@@ -17,10 +17,11 @@ use Rattle.vd_logic.specs.declared.term.Sort.TheVariants as sort
 use Rattle.vd_logic.specs.declared.term.Term.{Term}
 use Rattle.vd_heads.specs.declared.content.Content.{Content}
 use Rattle.vd_heads.specs.declared.content.Content.TheVariants as content
+use Rattle.vd_heads.specs.declared.content.HeadSection.{HeadSection}
 use Rattle.vd_heads.specs.declared.content.Part.{Part}
 use Rattle.vd_heads.specs.declared.table.Space.{Space}
 use Rattle.vd_heads.specs.declared.table.Space.TheVariants as space
-use Rattle.vd_heads.specs.Declaration.{Bytes, IsDeclared, declares}
+use Rattle.vd_heads.specs.Declaration.{Bytes, IsDeclared, IsSection, declares}
 use Rattle.vd_heads.specs.Closure.{Exports, Means}
 use Rattle.vd_sized.specs.Initial.{Misfits}
 use Rattle.vd_heads.specs.Assertions.{labels_of}
@@ -72,11 +73,18 @@ takes (Some sorts) args = are_sorts (map sort_of args) sorts
 abbrev pub SameTypes : List Field → List Field → Type 0
 SameTypes fs gs = map (λ f. f.typ) fs ≡ map (λ g. g.typ) gs
 
+abbrev pub SameSignature : Spec → Spec → Type 0
+SameSignature f g = (f.ret ≡ g.ret) × SameTypes f.params g.params
+
 -- what a definition has in common with what it defines: the sorts of a predicate, the types of a function
 abbrev pub Matches : Content → Content → Type 0
 Matches (content.Pred p twice) (content.Abstract name sorts again) = p.args ≡ sorts
-Matches (content.Spec f twice) (content.Spec g again) = (f.ret ≡ g.ret) × SameTypes f.params g.params
+Matches (content.Spec f twice) (content.Spec g again) = SameSignature f g
 Matches _ _ = ⊤
+
+-- the section defines nothing that another could declare otherwise
+abbrev pub MatchesAll : Content → Type 0
+MatchesAll c = (there : Content) → Matches c there
 
 -- ---- void
 
@@ -87,16 +95,21 @@ has_void _ = false
 
 module _ (parts : List Part) (own : ℕ) where
   -- A label's predicate takes other arguments.
-  pub record IsMisused (a : Assertion) : Type 0 where
-    pub label : Label
+  pub record IsMisused (label : Label) : Type 0 where
     pub declared : Content
-    pub stands : Contains (labels_of a) label
     pub means : Means parts own space.Predicate label.name declared
     pub other : takes (argument_sorts declared) label.args ≡ false
 
   -- An assertion's terms, or the arguments of its labels, have sorts that they may not have.
   abbrev pub Disagrees : Assertion → Type 0
-  Disagrees a = (assertion_agrees a ≡ false) ⊎ IsMisused a
+  Disagrees a = (assertion_agrees a ≡ false) ⊎ Any IsMisused (labels_of a)
+
+  -- The section of those numbers is one of an interface that the unit exports, and what it says differs.
+  pub record DiffersAt (c : Content) (interface number : ℕ) : Type 0 where
+    pub section : HeadSection
+    pub exported : Exports parts own interface
+    pub stands : IsSection parts interface number section
+    pub differs : Matches c section.content → ⊥
 
   -- An interface that the unit exports declares otherwise what the section defines.
   pub record IsOtherwise (c : Content) : Type 0 where
@@ -113,5 +126,5 @@ module _ (parts : List Part) (own : ℕ) where
   -- The section says something in which sorts or types disagree.
   abbrev pub IsDisagreement : Content → Type 0
   IsDisagreement c =
-      ((a : Assertion) × Contains (assertions_of c) a × Disagrees a)
+      Any Disagrees (assertions_of c)
       ⊎ ((has_void c ≡ true) ⊎ (Misfits parts own c ⊎ IsOtherwise c))

@@ -1,23 +1,26 @@
 //! Sorts and types that disagree.
 
-ghost use Rattle.std.specs.Prelude.{◌≡◌, ◌↔◌, option_copied, true, IfOk, IsTrue, MatchOption};
-ghost use Rattle.std.specs.List.{list_all};
+ghost use Rattle.std.specs.Prelude.{◌≡◌, ◌&&◌, ◌↔◌, true, IfOk, IsTrue, MatchOption};
+ghost use Rattle.std.specs.List.{Any, flat_map, list_all};
+ghost use Rattle.std.specs.Option.{option_copied, option_to_list};
+ghost use Rattle.vd_heads.specs.Assertions.{item_labels, labels_of};
+ghost use Rattle.vd_heads.specs.Closure.{IsUnambiguous};
+ghost use Rattle.vd_heads.specs.Declaration.{declares};
+ghost use Rattle.vd_heads.specs.Least.{IsLeastOrNone, IsPlaceOf};
+ghost use Rattle.vd_heads.specs.Views.{IsView};
 ghost use Rattle.vd_logic.specs.declared.term.Sort.TheVariants as sort;
 ghost use Rattle.vd_sized.specs.Agreement as agreement;
-ghost use Rattle.vd_heads.specs.Closure.{IsUnambiguous};
-ghost use Rattle.vd_heads.specs.Least.{IsLeastOrNone, IsPlaceOf};
+ghost use Rattle.vd_sized.specs.Sizes.{AreSizes, HasEnough};
 ghost use Rattle.vd_sized.specs.Sorts as sorts;
-ghost use Rattle.vd_sized.specs.Sizes.{AreSizes};
-ghost use Rattle.vd_heads.specs.Views.{IsView};
 
-use crate::initial::values_fit;
+use crate::initial::has_misfits;
 use crate::size::Sizes;
 use crate::sorts::{are_alike, have_sorts, is_of};
 use crate::types::{same, same_types};
 use std::alloc::{AllocError, Global};
-use vd_base::{Name, are_fields};
-use vd_logic::{Assertion, Item, Label, PredDef, Prop, Rel, Sort, Spec, Term};
-use vd_heads::{Content, Space, View, least};
+use vd_base::{List, Name, are_fields};
+use vd_heads::{Content, Space, Spot, View, least};
+use vd_logic::{Assertion, Item, Label, Prop, Rel, Sort, Spec, Term};
 
 fn prop_agrees(prop: &Prop) -> bool
     ensures { result ≡ agreement.prop_agrees prop.now }
@@ -31,42 +34,6 @@ fn prop_agrees(prop: &Prop) -> bool
         Prop::Each(l, a, b) => {
             is_of(l, Sort::List) && is_of(a, Sort::Int) && is_of(b, Sort::Int)
         }
-    }
-}
-
-/// The sorts of a predicate's arguments.
-fn arguments(content: &Content) -> Option<&[Sort]>
-    ensures { option_copied result ≡ agreement.argument_sorts content.now }
-{
-    match content {
-        Content::Abstract(_, sorts, _) => Some(sorts.as_slice()),
-        Content::Pred(pred, _) => Some(pred.args.as_slice()),
-        _ => None,
-    }
-}
-
-/// Whether a label has the arguments that its predicate takes; nothing is said of a predicate that is not known.
-fn label_agrees(view: &View<'_>, label: &Label) -> bool {
-    match view.meaning(Space::Predicate, &label.name) {
-        Some(content) => match arguments(content) {
-            Some(sorts) => have_sorts(&label.args, sorts),
-            None => true,
-        },
-        None => true,
-    }
-}
-
-fn item_agrees(view: &View<'_>, item: &Item) -> bool {
-    match item {
-        Item::Data(s, p, l) => {
-            is_of(s, Sort::Int) && is_of(p, Sort::Val) && is_of(l, Sort::List)
-        }
-        Item::Lock(s, p, label) => {
-            is_of(s, Sort::Int) && is_of(p, Sort::Val) && label_agrees(view, label)
-        }
-        Item::Holds(p, label) => is_of(p, Sort::Val) && label_agrees(view, label),
-        Item::Token(p, n) => is_of(p, Sort::Val) && is_of(n, Sort::Int),
-        Item::Pred(label) => label_agrees(view, label),
     }
 }
 
@@ -92,92 +59,216 @@ fn locals_agree(locals: &[(Name, Term)]) -> bool
     true
 }
 
-fn items_agree(view: &View<'_>, items: &[Item]) -> bool {
+fn item_agrees(item: &Item) -> bool
+    ensures { result ≡ agreement.item_agrees item.now }
+{
+    match item {
+        Item::Data(s, p, l) => {
+            is_of(s, Sort::Int) && is_of(p, Sort::Val) && is_of(l, Sort::List)
+        }
+        Item::Lock(s, p, _) => is_of(s, Sort::Int) && is_of(p, Sort::Val),
+        Item::Holds(p, _) => is_of(p, Sort::Val),
+        Item::Token(p, n) => is_of(p, Sort::Val) && is_of(n, Sort::Int),
+        Item::Pred(_) => true,
+    }
+}
+
+fn items_agree(items: &[Item]) -> bool
+    ensures { result ≡ list_all agreement.item_agrees items.now }
+{
     for item in items {
-        if !item_agrees(view, item) {
+        if !item_agrees(item) {
             return false;
         }
     }
     true
 }
 
-fn assertion_agrees(view: &View<'_>, a: &Assertion) -> bool
+/// The sorts of a predicate's arguments.
+fn arguments(content: &Content) -> Option<&[Sort]>
+    ensures { option_copied result ≡ agreement.argument_sorts content.now }
+{
+    match content {
+        Content::Abstract(_, sorts, _) => Some(sorts.as_slice()),
+        Content::Pred(pred, _) => Some(pred.args.as_slice()),
+        _ => None,
+    }
+}
+
+/// Whether a predicate of these sorts takes the arguments.
+fn takes(wanted: Option<&[Sort]>, args: &List<Term>) -> bool
+    ensures { result ≡ agreement.takes (option_copied wanted.entry) args.now }
+{
+    match wanted {
+        Some(wanted) => have_sorts(args, wanted),
+        None => true,
+    }
+}
+
+/// Whether the label's predicate takes other arguments; nothing is said of a predicate that is not known.
+fn is_misused(view: &View<'_>, label: &Label) -> bool
     requires view { IsView view.now }
     requires one { IsUnambiguous view.now.parts.now view.now.own }
-    ensures { IsTrue result ↔ (agreement.Disagrees view.now.parts.now view.now.own a.now → ⊥) }
+    ensures { IsTrue result ↔ agreement.IsMisused view.now.parts.now view.now.own label.now }
+{
+    match view.meaning(Space::Predicate, &label.name) {
+        Some(content) => !takes(arguments(content), &label.args),
+        None => false,
+    }
+}
+
+fn label_of(item: &Item) -> Option<&Label>
+    ensures { option_to_list (option_copied result) ≡ item_labels item.now }
+{
+    match item {
+        Item::Lock(_, _, label) => Some(label),
+        Item::Holds(_, label) => Some(label),
+        Item::Pred(label) => Some(label),
+        Item::Data(_, _, _) | Item::Token(_, _) => None,
+    }
+}
+
+/// Whether some label's predicate takes other arguments.
+fn misuse(view: &View<'_>, items: &[Item]) -> bool
+    requires view { IsView view.now }
+    requires one { IsUnambiguous view.now.parts.now view.now.own }
+    ensures { IsTrue result ↔ Any (agreement.IsMisused view.now.parts.now view.now.own) (flat_map item_labels items.now) }
+{
+    for item in items {
+        if let Some(label) = label_of(item) {
+            if is_misused(view, label) {
+                return true;
+            }
+        }
+    }
+    false
+}
+
+fn assertion_agrees(a: &Assertion) -> bool
+    ensures { result ≡ agreement.assertion_agrees a.now }
 {
     props_agree(a.props.as_slice())
         && locals_agree(a.locals.as_slice())
-        && items_agree(view, a.items.as_slice())
+        && items_agree(a.items.as_slice())
 }
 
-fn same_sorts(a: &[Sort], b: &[Sort]) -> bool
-    ensures { IsTrue result ↔ (a.now ≡ b.now) }
+fn disagrees(view: &View<'_>, a: &Assertion) -> bool
+    requires view { IsView view.now }
+    requires one { IsUnambiguous view.now.parts.now view.now.own }
+    ensures { IsTrue result ↔ agreement.Disagrees view.now.parts.now view.now.own a.now }
 {
-    a == b
+    !assertion_agrees(a) || misuse(view, a.items.as_slice())
 }
 
-/// Whether a unit's own predicate takes what each exported interface says that declares it.
-fn pred_agrees(view: &View<'_>, pred: &PredDef) -> bool {
-    for case in pred.cases.as_slice() {
-        if !assertion_agrees(view, case) {
-            return false;
+fn some_disagrees(view: &View<'_>, assertions: &[Assertion]) -> bool
+    requires view { IsView view.now }
+    requires one { IsUnambiguous view.now.parts.now view.now.own }
+    ensures { IsTrue result ↔ Any (agreement.Disagrees view.now.parts.now view.now.own) assertions.now }
+{
+    for a in assertions {
+        if disagrees(view, a) {
+            return true;
         }
     }
-    for spot in view.spots(Space::Predicate, pred.name.as_bytes()) {
-        if view.exports(spot.part) {
-            if let Some(Content::Abstract(_, sorts, _)) = view.content_at(*spot) {
-                if !same_sorts(sorts.as_slice(), pred.args.as_slice()) {
-                    return false;
-                }
-            }
-        }
-    }
-    true
+    false
 }
 
-/// Whether a unit's own specification has the types that each exported interface says that declares the function.
-fn spec_agrees(view: &View<'_>, spec: &Spec) -> bool {
-    for spot in view.spots(Space::Function, spec.name.as_bytes()) {
-        if view.exports(spot.part) {
-            if let Some(Content::Spec(other, _)) = view.content_at(*spot) {
-                if !same(&spec.ret, &other.ret)
-                    || !same_types(spec.params.as_slice(), other.params.as_slice())
-                {
-                    return false;
-                }
-            }
-        }
-    }
-    assertion_agrees(view, &spec.pre) && assertion_agrees(view, &spec.post)
+fn same_signature(f: &Spec, g: &Spec) -> bool
+    ensures { IsTrue result ↔ agreement.SameSignature f.now g.now }
+{
+    same(&f.ret, &g.ret) && same_types(f.params.as_slice(), g.params.as_slice())
 }
 
-fn content_agrees(
+/// Whether a definition has in common with what it defines what it must.
+fn matches(content: &Content, there: &Content) -> bool
+    ensures { IsTrue result ↔ agreement.Matches content.now there.now }
+{
+    match (content, there) {
+        (Content::Pred(pred, _), Content::Abstract(_, sorts, _)) => {
+            pred.args.as_slice() == sorts.as_slice()
+        }
+        (Content::Spec(spec, _), Content::Spec(other, _)) => same_signature(spec, other),
+        _ => true,
+    }
+}
+
+/// The name that a section may define for an interface.
+fn defined(content: &Content) -> Option<(Space, &Name)>
+    ensures { MatchOption result (agreement.MatchesAll content.now) (λ d. declares d.0 d.1.now content.now ≡ true) }
+{
+    match content {
+        Content::Pred(pred, _) => Some((Space::Predicate, &pred.name)),
+        Content::Spec(spec, _) => Some((Space::Function, &spec.name)),
+        _ => None,
+    }
+}
+
+/// Whether an interface that the part exports declares there otherwise what a section defines.
+fn differs_at(view: &View<'_>, content: &Content, spot: Spot) -> bool
+    requires { IsView view.now }
+    ensures { IsTrue result ↔ agreement.DiffersAt view.now.parts.now view.now.own content.now spot.part spot.section }
+{
+    if !view.exports(spot.part) {
+        return false;
+    }
+    match view.content_at(spot) {
+        Some(there) => !matches(content, there),
+        None => false,
+    }
+}
+
+/// Whether an interface that the part exports declares otherwise what a section defines.
+fn is_otherwise(view: &View<'_>, content: &Content) -> bool
+    requires { IsView view.now }
+    ensures { IsTrue result ↔ agreement.IsOtherwise view.now.parts.now view.now.own content.now }
+{
+    let Some((space, name)) = defined(content) else {
+        return false;
+    };
+    for spot in view.spots(space, name.as_bytes()) {
+        if differs_at(view, content, *spot) {
+            return true;
+        }
+    }
+    false
+}
+
+/// Whether a section says something in which sorts or types disagree.
+fn is_disagreement<'a>(
     alloc: Global,
     view: &View<'_>,
-    sizes: &Sizes<'_>,
-    content: &Content,
-) -> Result<bool, AllocError> {
+    sizes: &Sizes<'a>,
+    content: &'a Content,
+) -> Result<bool, AllocError>
+    requires view { IsView view.now }
+    requires one { IsUnambiguous view.now.parts.now view.now.own }
+    requires sizes { AreSizes view.now sizes.now }
+    requires few { HasEnough sizes.now.most content.now }
+    ensures { IfOk result (λ is. IsTrue is ↔ agreement.IsDisagreement view.now.parts.now view.now.own content.now) }
+{
     match content {
-        Content::Uses(_) | Content::Exports(_) | Content::Abstract(_, _, _) => Ok(true),
-        Content::Unread(_) => Ok(true),
-        Content::Struct(_, fields) => Ok(are_fields(fields.as_slice())),
-        Content::Global(field, init) => {
+        Content::Struct(_, fields) => Ok(!are_fields(fields.as_slice())),
+        Content::Global(field, values) => {
             if field.typ.is_void() {
-                return Ok(false);
+                return Ok(true);
             }
-            values_fit(alloc, view, sizes, &field.typ, init.as_slice())
+            has_misfits(alloc, view, sizes, field, values.as_slice())
         }
-        Content::Pred(pred, _) => Ok(pred_agrees(view, pred)),
-        Content::Spec(spec, _) => Ok(spec_agrees(view, spec)),
+        Content::Pred(pred, _) => {
+            Ok(some_disagrees(view, pred.cases.as_slice()) || is_otherwise(view, content))
+        }
+        Content::Spec(spec, _) => Ok(disagrees(view, &spec.pre)
+            || disagrees(view, &spec.post)
+            || is_otherwise(view, content)),
+        _ => Ok(false),
     }
 }
 
 /// The smallest place of a section in which sorts or types disagree.
-pub fn first_disagreement(
+pub fn first_disagreement<'a>(
     alloc: Global,
-    view: &View<'_>,
-    sizes: &Sizes<'_>,
+    view: &View<'a>,
+    sizes: &Sizes<'a>,
 ) -> Result<Option<u32>, AllocError>
     requires view { IsView view.now }
     requires one { IsUnambiguous view.now.parts.now view.now.own }
@@ -186,7 +277,7 @@ pub fn first_disagreement(
 {
     let mut first = None;
     for section in view.sections() {
-        if !content_agrees(alloc, view, sizes, &section.content)? {
+        if is_disagreement(alloc, view, sizes, &section.content)? {
             first = least(first, section.place);
         }
     }

@@ -1,15 +1,23 @@
 //! Initial values of globals.
 
-use crate::leaves::first_cells;
+ghost use Rattle.std.specs.Prelude.{◌≡◌, ◌≤◌, ◌↔◌, length, map, IsTrue, IfOk};
+ghost use Rattle.vd_base.specs.declared.ctype.CType.TheVariants as typ;
+ghost use Rattle.vd_heads.specs.Closure.{IsUnambiguous};
+ghost use Rattle.vd_heads.specs.Views.{IsView};
+ghost use Rattle.vd_sized.specs.Initial as initial;
+ghost use Rattle.vd_sized.specs.Sizes.{AreSizes};
+
 use crate::size::Sizes;
 use crate::types::same;
 use std::alloc::{AllocError, Global};
-use vd_base::{CType, Name};
+use vd_base::{CType, Field, List, Name};
 use vd_clight::Init;
 use vd_heads::{Content, Space, View};
 
 /// What the address of a global of a type points to: an array's is the address of its first element.
-fn pointed(t: &CType) -> &CType {
+fn pointed(t: &CType) -> &CType
+    ensures { result.now ≡ initial.pointed t.now }
+{
     match t {
         CType::Array(of, _) => of.get(),
         _ => t,
@@ -17,7 +25,9 @@ fn pointed(t: &CType) -> &CType {
 }
 
 /// Whether the address of a global of one type may stand in a pointer to another.
-fn converts(from: &CType, to: &CType) -> bool {
+fn converts(from: &CType, to: &CType) -> bool
+    ensures { IsTrue result ↔ initial.Converts from.now to.now }
+{
     match (from, to) {
         (_, CType::Void) => true,
         (CType::Void, _) => true,
@@ -25,45 +35,71 @@ fn converts(from: &CType, to: &CType) -> bool {
     }
 }
 
-fn address_fits(view: &View<'_>, name: &Name, to: &CType) -> bool {
+/// Whether the address of a global does not convert to such a pointer.
+fn is_other_pointer(view: &View<'_>, name: &Name, to: &CType) -> bool
+    requires view { IsView view.now }
+    requires one { IsUnambiguous view.now.parts.now view.now.own }
+    ensures { IsTrue result ↔ initial.IsOtherPointer view.now.parts.now view.now.own name.now (typ.Pointer to.now) }
+{
     match view.meaning(Space::Global, name) {
-        Some(Content::Global(field, _)) => converts(pointed(&field.typ), to),
-        _ => true,
+        Some(Content::Global(field, _)) => !converts(pointed(&field.typ), to),
+        _ => false,
     }
 }
 
-/// Whether a value may stand in a cell; nothing is said of a cell without a type of one cell.
-fn value_fits(view: &View<'_>, value: &Init, cell: &CType) -> bool {
+/// Whether a value may not stand in a cell.
+fn is_unfit(view: &View<'_>, value: &Init, cell: &CType) -> bool
+    requires view { IsView view.now }
+    requires one { IsUnambiguous view.now.parts.now view.now.own }
+    ensures { IsTrue result ↔ initial.IsUnfit view.now.parts.now view.now.own value.now cell.now }
+{
     match (value, cell) {
-        (Init::Int(_), CType::Int) | (Init::Int(_), CType::Unsigned) => true,
-        (Init::Int(n), CType::Lock) | (Init::Int(n), CType::Pointer(_)) => *n == 0,
-        (Init::Addr(name), CType::Pointer(to)) => address_fits(view, name, to.get()),
-        (Init::Addr(_), CType::Int) | (Init::Addr(_), CType::Unsigned) => false,
-        (Init::Addr(_), CType::Lock) => false,
-        (_, CType::Void) | (_, CType::Struct(_)) | (_, CType::Array(_, _)) => true,
+        (Init::Int(n), CType::Lock) => *n != 0,
+        (Init::Int(n), CType::Pointer(_)) => *n != 0,
+        (Init::Addr(name), CType::Pointer(to)) => is_other_pointer(view, name, to.get()),
+        (Init::Addr(_), CType::Int) => true,
+        (Init::Addr(_), CType::Unsigned) => true,
+        (Init::Addr(_), CType::Lock) => true,
+        _ => false,
     }
 }
 
-/// Whether a global of a type has no more values than cells, and each fits its cell; nothing is said of a type that holds
-/// itself.
-pub fn values_fit(
-    alloc: Global,
-    view: &View<'_>,
-    sizes: &Sizes<'_>,
-    typ: &CType,
-    values: &[Init],
-) -> Result<bool, AllocError> {
-    if sizes.cells(view, typ).is_none() {
-        return Ok(true);
-    }
-    let cells = first_cells(alloc, view, sizes, typ, values.len())?;
-    if cells.len() < values.len() {
-        return Ok(false);
-    }
-    for (value, cell) in values.iter().zip(cells.as_slice().iter()) {
-        if !value_fits(view, value, cell) {
-            return Ok(false);
+/// Whether some value may not stand in the cell at its place.
+fn are_unfit(view: &View<'_>, values: &[Init], cells: &List<&CType>) -> bool
+    requires view { IsView view.now }
+    requires one { IsUnambiguous view.now.parts.now view.now.own }
+    ensures { IsTrue result ↔ initial.AreUnfit view.now.parts.now view.now.own values.now (map (λ t. t.now) cells.now) }
+{
+    for (at, value) in values.iter().enumerate() {
+        match cells.get(at) {
+            Some(cell) => {
+                if is_unfit(view, value, cell) {
+                    return true;
+                }
+            }
+            None => return false,
         }
     }
-    Ok(true)
+    false
+}
+
+/// Whether a global has more initial values than cells, or one that does not fit its cell.
+pub fn has_misfits<'a>(
+    alloc: Global,
+    view: &View<'_>,
+    sizes: &Sizes<'a>,
+    global: &'a Field,
+    values: &[Init],
+) -> Result<bool, AllocError>
+    requires view { IsView view.now }
+    requires one { IsUnambiguous view.now.parts.now view.now.own }
+    requires sizes { AreSizes view.now sizes.now }
+    requires few { length values.now ≤ sizes.now.most }
+    ensures { IfOk result (λ has. IsTrue has ↔ initial.HasMisfits view.now.parts.now view.now.own global.now values.now) }
+{
+    match sizes.cells(alloc, view, &global.typ)? {
+        Some(cells) => Ok(cells.first.len() < values.len()
+            || are_unfit(view, values, &cells.first)),
+        None => Ok(false),
+    }
 }

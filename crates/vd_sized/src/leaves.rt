@@ -1,95 +1,100 @@
-//! The cells of a type, one by one.
+//! The cells of a type: how many there are, and the types of the first ones.
 
-use crate::size::Sizes;
+ghost use Rattle.std.specs.Prelude.{◌≡◌, ◌≤◌, ◌+◌, ℕ, List, [], ◌∷◌, ◌++◌, length, take, IfOk, OnOk};
+ghost use Rattle.std.specs.List.{repeat};
+ghost use Rattle.vd_base.specs.Layout.{most_cells};
+ghost use Rattle.vd_base.specs.declared.ctype.CType.{CType as Cell};
+ghost use Rattle.vd_sized.specs.Counts.{Counts};
+
 use std::alloc::{AllocError, Global};
-use vd_base::{CType, Field, List};
-use vd_heads::{Content, Space, View};
+use vd_base::{CType, List};
 
-/// A type, and how many of it stand in a row.
-#[derive(Clone, Copy)]
-struct Row<'a> {
-    typ: &'a CType,
-    count: u64,
+/// The most cells of a type.
+pub const MOST_CELLS: u64 = 1048576;
+
+/// How many cells there are, at most one more than a type may have, and the types of the first ones.
+#[derive(Drop)]
+pub struct Counted<'a> {
+    pub count: u64,
+    pub first: List<&'a CType>,
 }
 
-/// Puts fields before what follows, the last one first.
-fn put_fields<'a>(fields: &'a [Field], rest: &mut Vec<Row<'a>>) -> Result<(), AllocError> {
-    for field in fields.iter().rev() {
-        rest.push(Row {
-            typ: &field.typ,
-            count: 1,
-        })?;
-    }
-    Ok(())
-}
-
-/// Adds so many cells of a type, unless there are enough.
-fn put_cells<'a>(
-    typ: &'a CType,
-    count: u64,
+/// Puts types behind others, until there are enough.
+fn put_all<'a>(
+    first: &mut List<&'a CType>,
+    more: &List<&'a CType>,
     most: usize,
-    cells: &mut List<&'a CType>,
-) -> Result<(), AllocError> {
-    for _ in 0..count.min(most as u64) {
-        if cells.len() < most {
-            cells.push(typ)?;
+) -> Result<(), AllocError>
+    requires { length first.old ≤ most }
+    ensures { OnOk result (first.new ≡ take most (first.old ++ more.now)) }
+{
+    for t in more.as_slice() {
+        if first.len() < most {
+            first.push(*t)?;
         }
     }
     Ok(())
 }
 
-/// Takes a row apart: into cells, or into rows of smaller types.
-fn spread<'a>(
-    view: &View<'a>,
-    row: Row<'a>,
-    most: usize,
-    rest: &mut Vec<Row<'a>>,
-    cells: &mut List<&'a CType>,
-) -> Result<(), AllocError> {
-    match row.typ {
-        CType::Array(of, length) => {
-            let count = (u64::from(*length) * row.count).min(most as u64);
-            rest.push(Row {
-                typ: of.get(),
-                count,
-            })?;
-            Ok(())
+impl<'a> Counted<'a> {
+    /// No cells.
+    pub fn none(alloc: Global) -> Counted<'a>
+        ensures { (most : ℕ) → Counts most [] result }
+    {
+        Counted {
+            count: 0,
+            first: List::new(alloc),
         }
-        CType::Struct(name) => match view.meaning(Space::Struct, name) {
-            Some(Content::Struct(_, fields)) => {
-                rest.push(Row {
-                    typ: row.typ,
-                    count: row.count - 1,
-                })?;
-                put_fields(fields.as_slice(), rest)
+    }
+
+    /// One cell of this type.
+    pub fn one(alloc: Global, t: &'a CType, most: usize) -> Result<Counted<'a>, AllocError>
+        ensures { IfOk result (Counts most (t.now ∷ [])) }
+    {
+        let mut first = List::new(alloc);
+        if most > 0 {
+            first.push(t)?;
+        }
+        Ok(Counted { count: 1, first })
+    }
+
+    /// The same cells.
+    pub fn copy(&self, alloc: Global) -> Result<Counted<'a>, AllocError>
+        ensures { IfOk result (λ copy. copy ≡ self.now) }
+    {
+        let first = List::from_slice(alloc, self.first.as_slice())?;
+        Ok(Counted {
+            count: self.count,
+            first,
+        })
+    }
+
+    /// Puts cells behind these.
+    pub fn add(&mut self, more: &Counted<'a>, most: usize) -> Result<(), AllocError>
+        requires count { self.old.count ≤ most_cells + 1 }
+        requires more { more.now.count ≤ most_cells + 1 }
+        requires first { length self.old.first ≤ most }
+        ensures { OnOk result ((ts us : List Cell) → Counts most ts self.old → Counts most us more.now → Counts most (ts ++ us) self.new) }
+    {
+        put_all(&mut self.first, &more.first, most)?;
+        self.count = (self.count + more.count).min(MOST_CELLS + 1);
+        Ok(())
+    }
+
+    /// The cells of so many times these.
+    pub fn times(&self, alloc: Global, times: u32, most: usize) -> Result<Counted<'a>, AllocError>
+        requires { self.now.count ≤ most_cells + 1 }
+        ensures { IfOk result (λ c. (ts : List Cell) → Counts most ts self.now → Counts most (repeat times ts) c) }
+    {
+        let mut first = List::new(alloc);
+        for _ in 0..u64::from(times).min(most as u64) {
+            if first.len() < most {
+                put_all(&mut first, &self.first, most)?;
             }
-            _ => put_cells(row.typ, row.count, most, cells),
-        },
-        CType::Void | CType::Int | CType::Unsigned | CType::Lock | CType::Pointer(_) => {
-            put_cells(row.typ, row.count, most, cells)
         }
+        Ok(Counted {
+            count: (u64::from(times) * self.count).min(MOST_CELLS + 1),
+            first,
+        })
     }
-}
-
-/// The types of the first cells of a type that does not hold itself. What has no cells counts as one.
-pub fn first_cells<'a>(
-    alloc: Global,
-    view: &View<'a>,
-    sizes: &Sizes<'_>,
-    typ: &'a CType,
-    most: usize,
-) -> Result<List<&'a CType>, AllocError> {
-    let mut cells = List::new(alloc);
-    let mut rest = Vec::new(alloc);
-    rest.push(Row { typ, count: 1 })?;
-    while let Some(row) = rest.pop() {
-        if cells.len() >= most {
-            return Ok(cells);
-        }
-        let is_empty = row.count == 0 || sizes.cells(view, row.typ) == Some(0);
-        if !is_empty {
-            spread(view, row, most, &mut rest, &mut cells)?;
-        }
-    }
-    Ok(cells)
 }

@@ -4,9 +4,11 @@
 mod agreement;
 mod initial;
 mod leaves;
+mod order;
 mod size;
 mod sorts;
 mod types;
 
 pub use agreement::first_disagreement;
-pub use size::{Order, Sizes, StructSeen};
+pub use order::{StructSeen, struct_order};
+pub use size::Sizes;

@@ -1,194 +1,252 @@
 //! How many cells types have.
 
+ghost use Rattle.std.specs.Prelude.{◌≡◌, ◌↔◌, true, IsTrue, IfOk, OnOk, MatchOption};
+ghost use Rattle.std.specs.List.{All};
+ghost use Rattle.vd_base.specs.declared.ctype.CType.TheVariants as typ;
+ghost use Rattle.vd_heads.specs.Closure.{IsUnambiguous};
+ghost use Rattle.vd_heads.specs.Least.{IsLeastOrNone, IsPlaceOf};
+ghost use Rattle.vd_heads.specs.Views.{IsView};
+ghost use Rattle.vd_sized.specs.Cells.{HasCells, HaveCells, IsLarge, is_one};
+ghost use Rattle.vd_sized.specs.Counts.{CountsSome};
+ghost use Rattle.vd_sized.specs.Seen.{IsMeant};
+ghost use Rattle.vd_sized.specs.Sizes.{AreCounted, AreEnough, AreSizes, IsCountedOrWaits, Passes, Settles, SomeWaits, Waits};
+
+use crate::leaves::{Counted, MOST_CELLS};
+use crate::order::{StructSeen, struct_order, structs_seen};
 use std::alloc::{AllocError, Global};
-use std::collections::{BTreeMap, BTreeSet};
+use std::collections::BTreeMap;
 use vd_base::{CType, Field, List, Name};
-use vd_heads::{Content, Space, View, held, least};
+use vd_heads::{Content, Space, View, least};
 
-/// The most cells of a type.
-pub const MOST_CELLS: u64 = 1048576;
-
-/// A struct that a part sees.
-#[derive(Clone, Copy)]
-pub struct StructSeen<'a> {
-    pub name: &'a Name,
-    pub fields: &'a [Field],
-}
-
-/// A struct whose fields are visited, and how many have been.
-#[derive(Clone, Copy)]
-struct Open<'a> {
-    known: StructSeen<'a>,
-    next: usize,
-}
-
-/// Structs in an order in which what a struct holds by value stands before it, unless the struct holds itself.
-#[derive(Drop)]
-pub struct Order<'a> {
-    pub structs: List<StructSeen<'a>>,
-    met: BTreeSet<&'a [u8]>,
-}
-
-fn seen_struct<'a>(view: &View<'a>, name: &Name) -> Option<StructSeen<'a>> {
-    match view.meaning(Space::Struct, name) {
-        Some(Content::Struct(name, fields)) => Some(StructSeen {
-            name,
-            fields: fields.as_slice(),
-        }),
-        _ => None,
-    }
-}
-
-impl<'a> Order<'a> {
-    pub fn new(alloc: Global) -> Order<'a> {
-        Order {
-            structs: List::new(alloc),
-            met: BTreeSet::new(alloc),
-        }
-    }
-
-    /// Opens a struct that has not been met.
-    fn meet(
-        &mut self,
-        view: &View<'a>,
-        name: &Name,
-        open: &mut Vec<Open<'a>>,
-    ) -> Result<(), AllocError> {
-        let Some(known) = seen_struct(view, name) else {
-            return Ok(());
-        };
-        if self.met.insert(known.name.as_bytes())? {
-            open.push(Open { known, next: 0 })?;
-        }
-        Ok(())
-    }
-
-    /// Visits the next field of a struct, or adds the struct where all are visited.
-    fn advance(
-        &mut self,
-        view: &View<'a>,
-        at: Open<'a>,
-        open: &mut Vec<Open<'a>>,
-    ) -> Result<(), AllocError> {
-        match at.known.fields.get(at.next) {
-            Some(field) => {
-                open.push(Open {
-                    known: at.known,
-                    next: at.next + 1,
-                })?;
-                match held(&field.typ) {
-                    Some(name) => self.meet(view, name, open),
-                    None => Ok(()),
-                }
-            }
-            None => self.structs.push(at.known),
-        }
-    }
-
-    /// Adds the struct that a type holds by value, behind those that it holds.
-    pub fn add(
-        &mut self,
-        alloc: Global,
-        view: &View<'a>,
-        name: &Name,
-    ) -> Result<(), AllocError> {
-        let mut open = Vec::new(alloc);
-        self.meet(view, name, &mut open)?;
-        while let Some(at) = open.pop() {
-            self.advance(view, at, &mut open)?;
-        }
-        Ok(())
-    }
-}
-
-/// The cells of structs, at most one more than a type may have; none for a struct that holds itself, however deep.
+/// The cells of structs by their names. A struct that a part sees and that is not there holds itself, however deep.
 #[derive(Drop)]
 pub struct Sizes<'a> {
-    cells: BTreeMap<&'a [u8], Option<u64>>,
+    /// How many of the first cells are kept.
+    most: usize,
+    known: BTreeMap<&'a [u8], Counted<'a>>,
+}
+
+/// The most initial values of a global in the part.
+fn most_values(view: &View<'_>) -> usize
+    ensures { AreEnough view.now result }
+{
+    let mut most = 0;
+    for section in view.sections() {
+        if let Content::Global(_, values) = &section.content {
+            most = values.len().max(most);
+        }
+    }
+    most
 }
 
 impl<'a> Sizes<'a> {
-    /// The cells of a type, where what has none counts as one.
-    pub fn cells(&self, view: &View<'_>, t: &CType) -> Option<u64> {
+    /// The cells of a struct, where what is unknown counts as one cell.
+    fn struct_cells(
+        &self,
+        alloc: Global,
+        view: &View<'_>,
+        t: &'a CType,
+        name: &Name,
+    ) -> Result<Option<Counted<'a>>, AllocError>
+        requires view { IsView view.now }
+        requires counted { AreCounted view.now self.now }
+        requires named { t.now ≡ typ.Struct name.now }
+        ensures { IfOk result (λ found. MatchOption found (Waits view.now self.now t.now) (CountsSome self.now.most (HasCells view.now.parts.now view.now.own t.now))) }
+    {
+        match self.known.get(name.as_bytes()) {
+            Some(kept) => Ok(Some(kept.copy(alloc)?)),
+            None => {
+                if view.knows(Space::Struct, name) {
+                    return Ok(None);
+                }
+                Ok(Some(Counted::one(alloc, t, self.most)?))
+            }
+        }
+    }
+
+    /// The cell that a type is.
+    fn single(
+        &self,
+        alloc: Global,
+        view: &View<'_>,
+        t: &'a CType,
+    ) -> Result<Option<Counted<'a>>, AllocError>
+        requires { is_one t.now ≡ true }
+        ensures { IfOk result (λ found. MatchOption found (Waits view.now self.now t.now) (CountsSome self.now.most (HasCells view.now.parts.now view.now.own t.now))) }
+    {
+        Ok(Some(Counted::one(alloc, t, self.most)?))
+    }
+
+    /// The cells of a type, where what has none counts as one; none where it waits for a struct.
+    #[tactic(auto, unfolding(crate::specs::Cells::is_one))]
+    pub fn cells(
+        &self,
+        alloc: Global,
+        view: &View<'_>,
+        t: &'a CType,
+    ) -> Result<Option<Counted<'a>>, AllocError>
+        requires view { IsView view.now }
+        requires counted { AreCounted view.now self.now }
+        ensures { IfOk result (λ found. MatchOption found (Waits view.now self.now t.now) (CountsSome self.now.most (HasCells view.now.parts.now view.now.own t.now))) }
+    {
         match t {
-            CType::Void | CType::Int | CType::Unsigned | CType::Lock | CType::Pointer(_) => Some(1),
-            CType::Struct(name) => match self.cells.get(name.as_bytes()) {
-                Some(cells) => *cells,
-                None => {
-                    if view.knows(Space::Struct, name) {
-                        None
-                    } else {
-                        Some(1)
-                    }
-                }
+            CType::Struct(name) => self.struct_cells(alloc, view, t, name),
+            CType::Array(of, length) => match self.cells(alloc, view, of.get())? {
+                Some(element) => Ok(Some(element.times(alloc, *length, self.most)?)),
+                None => Ok(None),
             },
-            CType::Array(of, length) => {
-                let cells = self.cells(view, of.get())?;
-                Some((u64::from(*length) * cells).min(MOST_CELLS + 1))
-            }
+            CType::Void => self.single(alloc, view, t),
+            CType::Int => self.single(alloc, view, t),
+            CType::Unsigned => self.single(alloc, view, t),
+            CType::Lock => self.single(alloc, view, t),
+            CType::Pointer(_) => self.single(alloc, view, t),
         }
     }
 
-    fn together(&self, view: &View<'_>, fields: &[Field]) -> Option<u64> {
-        let mut total = 0;
+    /// The cells of fields together; none where one waits for a struct.
+    fn together(
+        &self,
+        alloc: Global,
+        view: &View<'_>,
+        fields: &'a [Field],
+    ) -> Result<Option<Counted<'a>>, AllocError>
+        requires view { IsView view.now }
+        requires counted { AreCounted view.now self.now }
+        ensures { IfOk result (λ found. MatchOption found (SomeWaits view.now self.now fields.now) (CountsSome self.now.most (HaveCells view.now.parts.now view.now.own fields.now))) }
+    {
+        let mut total = Counted::none(alloc);
         for field in fields {
-            let cells = self.cells(view, &field.typ)?;
-            total = (total + cells).min(MOST_CELLS + 1);
-        }
-        Some(total)
-    }
-
-    /// The cells of all structs that the types in the part hold by value.
-    pub fn of(alloc: Global, view: &View<'a>) -> Result<Sizes<'a>, AllocError> {
-        let mut order = Order::new(alloc);
-        for section in view.sections() {
-            match &section.content {
-                Content::Struct(name, _) => order.add(alloc, view, name)?,
-                Content::Global(field, _) => {
-                    if let Some(name) = held(&field.typ) {
-                        order.add(alloc, view, name)?;
-                    }
-                }
-                _ => {}
+            match self.cells(alloc, view, &field.typ)? {
+                Some(cells) => total.add(&cells, self.most)?,
+                None => return Ok(None),
             }
         }
-        let mut sizes = Sizes {
-            cells: BTreeMap::new(alloc),
-        };
-        for known in order.structs.as_slice() {
-            let cells = sizes.together(view, known.fields);
-            sizes.cells.insert(known.name.as_bytes(), cells)?;
+        Ok(Some(total))
+    }
+
+    /// Counts a struct, unless it waits for another.
+    fn count(
+        &mut self,
+        alloc: Global,
+        view: &View<'_>,
+        known: StructSeen<'a>,
+    ) -> Result<bool, AllocError>
+        requires view { IsView view.now }
+        requires counted { AreCounted view.now self.old }
+        requires known { IsMeant view.now known }
+        ensures { IfOk result (IsCountedOrWaits view.now self.old self.new known.entry) }
+    {
+        let name = known.name.as_bytes();
+        if self.known.contains_key(name) {
+            return Ok(true);
         }
+        match self.together(alloc, view, known.fields)? {
+            Some(cells) => {
+                self.known.insert(name, cells)?;
+                Ok(true)
+            }
+            None => Ok(false),
+        }
+    }
+
+    /// Counts structs, and gives those that wait.
+    fn pass(
+        &mut self,
+        alloc: Global,
+        view: &View<'_>,
+        waiting: &[StructSeen<'a>],
+    ) -> Result<List<StructSeen<'a>>, AllocError>
+        requires view { IsView view.now }
+        requires counted { AreCounted view.now self.old }
+        requires waiting { All (IsMeant view.now) waiting.now }
+        ensures { IfOk result (Passes view.now self.old self.new waiting.now) }
+    {
+        let mut left = List::new(alloc);
+        for known in waiting {
+            if !self.count(alloc, view, *known)? {
+                left.push(*known)?;
+            }
+        }
+        Ok(left)
+    }
+
+    /// Counts structs until all that are left wait.
+    fn settle(
+        &mut self,
+        alloc: Global,
+        view: &View<'_>,
+        seen: List<StructSeen<'a>>,
+    ) -> Result<(), AllocError>
+        requires view { IsView view.now }
+        requires counted { AreCounted view.now self.old }
+        requires seen { All (IsMeant view.now) seen }
+        ensures { OnOk result (Settles view.now self.old self.new seen.entry) }
+    {
+        let mut waiting = seen;
+        loop {
+            let left = self.pass(alloc, view, waiting.as_slice())?;
+            if left.len() == waiting.len() {
+                return Ok(());
+            }
+            waiting = left;
+        }
+    }
+
+    /// The cells of all structs that the part sees.
+    pub fn of(alloc: Global, view: &View<'a>) -> Result<Sizes<'a>, AllocError>
+        requires view { IsView view.now }
+        requires one { IsUnambiguous view.now.parts.now view.now.own }
+        ensures { IfOk result (AreSizes view.now) }
+    {
+        let mut sizes = Sizes {
+            most: most_values(view),
+            known: BTreeMap::new(alloc),
+        };
+        let order = struct_order(alloc, view)?;
+        sizes.pass(alloc, view, order.as_slice())?;
+        let seen = structs_seen(alloc, view)?;
+        sizes.settle(alloc, view, seen)?;
         Ok(sizes)
     }
 
-    /// Whether a type has more cells than one may have.
-    fn is_large(&self, view: &View<'_>, t: &CType) -> bool {
-        match self.cells(view, t) {
-            Some(cells) => cells > MOST_CELLS,
-            None => true,
-        }
-    }
-
-    fn is_large_content(&self, view: &View<'_>, content: &Content) -> bool {
+    /// Whether a section declares a type that is too large.
+    fn is_large(
+        &self,
+        alloc: Global,
+        view: &View<'_>,
+        content: &'a Content,
+    ) -> Result<bool, AllocError>
+        requires view { IsView view.now }
+        requires one { IsUnambiguous view.now.parts.now view.now.own }
+        requires sizes { AreSizes view.now self.now }
+        ensures { IfOk result (λ large. IsTrue large ↔ IsLarge view.now.parts.now view.now.own content.now) }
+    {
         match content {
-            Content::Struct(_, fields) => match self.together(view, fields.as_slice()) {
-                Some(cells) => cells > MOST_CELLS,
-                None => true,
+            Content::Struct(_, fields) => match self.together(alloc, view, fields.as_slice())? {
+                Some(cells) => Ok(cells.count > MOST_CELLS),
+                None => Ok(true),
             },
-            Content::Global(field, _) => self.is_large(view, &field.typ),
-            _ => false,
+            Content::Global(field, _) => match self.cells(alloc, view, &field.typ)? {
+                Some(cells) => Ok(cells.count > MOST_CELLS),
+                None => Ok(true),
+            },
+            _ => Ok(false),
         }
     }
 
     /// The smallest place of a section whose type is too large.
-    pub fn first_large(&self, view: &View<'_>) -> Option<u32> {
+    pub fn first_large(&self, alloc: Global, view: &View<'a>) -> Result<Option<u32>, AllocError>
+        requires view { IsView view.now }
+        requires one { IsUnambiguous view.now.parts.now view.now.own }
+        requires sizes { AreSizes view.now self.now }
+        ensures { IfOk result (IsLeastOrNone (IsPlaceOf view.now.parts.now view.now.own (IsLarge view.now.parts.now view.now.own))) }
+    {
         let mut first = None;
         for section in view.sections() {
-            if self.is_large_content(view, &section.content) {
+            if self.is_large(alloc, view, &section.content)? {
                 first = least(first, section.place);
             }
         }
-        first
+        Ok(first)
     }
 }

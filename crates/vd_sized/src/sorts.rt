@@ -7,7 +7,7 @@ use vd_base::List;
 use vd_logic::{Op, Sort, Term};
 
 /// What an operation takes, and what it gives.
-pub fn signature(op: Op) -> (&'static [Sort], Sort)
+fn signature(op: Op) -> (&'static [Sort], Sort)
     ensures args { result.0.now ≡ (sorts.signature op).0 }
     ensures given { result.1 ≡ (sorts.signature op).1 }
 {
@@ -33,9 +33,30 @@ pub fn signature(op: Op) -> (&'static [Sort], Sort)
     }
 }
 
+fn same_sort(a: Sort, b: Sort) -> bool
+    ensures { result ≡ sorts.same_sort a b }
+{
+    match (a, b) {
+        (Sort::Int, Sort::Int) => true,
+        (Sort::Val, Sort::Val) => true,
+        (Sort::List, Sort::List) => true,
+        _ => false,
+    }
+}
+
+/// Whether a term's sort is that one.
+fn is_sort(found: Option<Sort>, wanted: Sort) -> bool
+    ensures { result ≡ sorts.is_sort found wanted }
+{
+    match found {
+        Some(found) => same_sort(found, wanted),
+        None => false,
+    }
+}
+
 /// The sort of a term, where its parts agree. A name that nothing declares has none.
 #[cycle(sort)]
-pub fn sort_of(term: &Term) -> Option<Sort>
+fn sort_of(term: &Term) -> Option<Sort>
     ensures { result ≡ sorts.sort_of term.now }
 {
     match term {
@@ -56,25 +77,29 @@ pub fn sort_of(term: &Term) -> Option<Sort>
 
 /// Whether terms have these sorts, one by one.
 #[cycle(sort)]
-pub fn have_sorts(terms: &List<Term>, sorts: &[Sort]) -> bool
-    ensures { result ≡ sorts.are_sorts (map sorts.sort_of terms.now) sorts.now }
+pub fn have_sorts(terms: &List<Term>, wanted: &[Sort]) -> bool
+    ensures { result ≡ sorts.are_sorts (map sorts.sort_of terms.now) wanted.now }
 {
-    if terms.len() != sorts.len() {
-        return false;
-    }
-    for (term, sort) in terms.as_slice().iter().zip(sorts.iter()) {
-        if sort_of(term) != Some(*sort) {
-            return false;
+    let mut rest = wanted;
+    for term in terms.as_slice() {
+        match rest.split_first() {
+            Some((sort, others)) => {
+                if !is_sort(sort_of(term), *sort) {
+                    return false;
+                }
+                rest = others;
+            }
+            None => return false,
         }
     }
-    true
+    rest.is_empty()
 }
 
 /// Whether a term has a sort.
 pub fn is_of(term: &Term, sort: Sort) -> bool
     ensures { result ≡ sorts.is_of sort term.now }
 {
-    sort_of(term) == Some(sort)
+    is_sort(sort_of(term), sort)
 }
 
 /// Whether two terms have one sort.

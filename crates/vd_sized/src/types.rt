@@ -25,13 +25,17 @@ pub fn same(a: &CType, b: &CType) -> bool
 pub fn same_types(a: &[Field], b: &[Field]) -> bool
     ensures { IsTrue result ↔ SameTypes a.now b.now }
 {
-    if a.len() != b.len() {
-        return false;
-    }
-    for (f, g) in a.iter().zip(b.iter()) {
-        if !same(&f.typ, &g.typ) {
-            return false;
+    let mut rest = b;
+    for f in a {
+        match rest.split_first() {
+            Some((g, others)) => {
+                if !same(&f.typ, &g.typ) {
+                    return false;
+                }
+                rest = others;
+            }
+            None => return false,
         }
     }
-    true
+    rest.is_empty()
 }
