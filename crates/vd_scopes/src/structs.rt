@@ -41,7 +41,7 @@ fn put_struct(
     structs: &mut Structs,
     known: StructSeen<'_>,
 ) -> Result<bool, AllocError>
-    ensures { IfOk result (IsTried structs.old known structs.new) }
+    ensures { IfOk result (IsTried structs.old known.entry structs.new) }
 {
     if !are_fields(known.fields) {
         return Ok(false);
@@ -61,7 +61,7 @@ fn visit<'a>(
     known: StructSeen<'a>,
     left: &mut List<StructSeen<'a>>,
 ) -> Result<(), AllocError>
-    ensures { OnOk result (IsVisited known structs.old structs.new left.old left.new) }
+    ensures { OnOk result (IsVisited known.entry structs.old structs.new left.old left.new) }
 {
     if put_struct(alloc, structs, known)? {
         return Ok(());
@@ -90,7 +90,7 @@ fn settle<'a>(
     structs: &mut Structs,
     seen: List<StructSeen<'a>>,
 ) -> Result<(), AllocError>
-    ensures { OnOk result (Settles structs.old structs.new seen) }
+    ensures { OnOk result (Settles structs.old structs.new seen.entry) }
 {
     let mut waiting = seen;
     loop {

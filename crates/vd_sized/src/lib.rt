@@ -10,5 +10,5 @@ mod sorts;
 mod types;
 
 pub use agreement::first_disagreement;
-pub use order::{StructSeen, struct_order};
+pub use order::{StructSeen, struct_order, structs_seen};
 pub use size::Sizes;
