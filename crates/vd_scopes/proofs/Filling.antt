@@ -21,7 +21,7 @@ use Rattle.vd_heads.proofs.Sets.{slice_get-front, slice_get-last, slice_get-push
 use Rattle.vd_sized.specs.declared.order.StructSeen.{StructSeen}
 use Rattle.vd_sized.specs.Seen.{AreAllSeen, IsMeant, Names}
 use Rattle.vd_scopes.specs.Scope.{HasStructs}
-use Rattle.vd_scopes.specs.Structs.{Stands, IsTaken, IsRefused, Grows, same, more, IsVisited, Passes, Settles}
+use Rattle.vd_scopes.specs.Structs.{Stands, IsTaken, IsRefused, IsTried, Grows, same, more, IsVisited, Passes, Settles}
 
 -- ---- what is in a table
 
@@ -184,14 +184,16 @@ meant_at view own structs all s stands =
 stands_in : (structs : List StructSeen) (s : StructSeen) → Contains structs s → Stands structs s
 stands_in structs s c = (c.0, slice_get-get_or structs c.0 s c.1 ∙ ap Some c.2)
 
-pub has_structs : (view : View) → view.own ≡ 0 → IsUnambiguous view.parts.now 0 → (order left seen : List StructSeen) (first table : Table) → All (IsMeant view) order → AreAllSeen view seen → Passes [] first order left
-    → Settles first table seen → HasStructs view.parts.now table
-has_structs view own one order left seen first table ordered all p settles = record {
+pub has_structs : (view : View) → view.own ≡ 0 → IsUnambiguous view.parts.now 0 → (order ws left seen : List StructSeen) (empty first table : Table) → ws ≡ order → empty ≡ [] → All (IsMeant view) order → AreAllSeen view seen
+    → Passes empty first ws left → Settles first table seen → HasStructs view.parts.now table
+has_structs view own one order ws left seen empty first table tried nothing ordered all q settles = record {
   made = fits.made;
   filled = fits.filled;
   declared = fits.declared;
   most = λ name fields means filled lacks. most name fields means filled lacks (all.all name fields (subst (λ k. Means view.parts.now k space.Struct name (content.Struct name fields)) (sym own) means));
 } where
+  p : Passes [] first order left
+  p = let P : List StructSeen → Type 0 = λ xs. Passes [] first xs left in let Q : Table → Type 0 = λ t. Passes t first ws left in subst P tried (subst Q nothing q)
   fits : Fits view.parts.now table
   fits = fits_grown view.parts.now seen first table (meant_at view own seen all.meant) (fits_grown view.parts.now order [] first (meant_at view own order ordered) (fits_none view.parts.now) p.grows) settles.grows
   most : (name : Bytes) (fields : List Field) → Means view.parts.now 0 space.Struct name (content.Struct name fields) → are_fields fields ≡ true → fields_of table name ≡ None
@@ -207,3 +209,10 @@ has_structs view own one order left seen first table ordered all p settles = rec
       ] where
     no : true ≡ false → ⊥
     no h = cc
+
+pub tried_refused : (old : Table) (s : StructSeen) (new : Table) (name : Bytes) (fields : List Field) → name ≡ s.name.now → fields ≡ s.fields.now → new ≡ old → (taken : Bool) → (taken ≡ false) × (refusal old name fields ≢ None)
+    → IsTried old s new taken
+tried_refused old s new name fields n f e true r = absurd (true≢false r.0) where
+  true≢false : true ≡ false → ⊥
+  true≢false h = cc
+tried_refused old s new name fields n f e false r = (e, λ filled refused. r.1 (ap (λ x. refusal old x fields) n ∙ (ap (refusal old s.name.now) f ∙ refused)))
