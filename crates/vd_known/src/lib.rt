@@ -3,6 +3,7 @@
 
 mod completeness;
 mod known;
+mod names;
 mod twice;
 
 pub use completeness::{Bodies, first_lack};

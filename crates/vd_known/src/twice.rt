@@ -8,7 +8,7 @@ ghost use Rattle.vd_heads.specs.Views.{IsView};
 use std::alloc::{AllocError, Global};
 use std::collections::BTreeSet;
 use vd_base::Field;
-use vd_heads::{Content, Space, Spot, View};
+use vd_heads::{Content, Space, Spot, View, least};
 
 /// Whether a unit's own section defines what another section declares: a predicate or the specification of a function
 /// that an interface declares which the unit exports.
