@@ -1,2 +1,4 @@
 mod NameLaws
 mod Needs
+mod Least
+mod Unknown

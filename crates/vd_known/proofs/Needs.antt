@@ -1,5 +1,5 @@
 -- Whether all that is needed is seen, one element after the other.
-use Rattle.std.proofs.Common.{◌≡◌, ℕ, zero, suc, ◌+◌, ◌<◌, ◌≤◌, Bool, true, false, ◌&&◌, List, [], ◌∷◌, ◌++◌, length, map, take, get_or, flat_map, ℤ, None, Some, refl, ap, sym, ◌∙◌, arith}
+use Rattle.std.proofs.Common.{◌≡◌, ℕ, zero, suc, ◌+◌, ◌<◌, ◌≤◌, Bool, true, false, cond, ◌&&◌, List, [], ◌∷◌, ◌++◌, length, map, take, get_or, flat_map, ℤ, None, Some, refl, ap, sym, ◌∙◌, arith}
 use Rattle.std.proofs.lemmas.List.{take_more, take_all}
 use Rattle.std.proofs.lemmas.List.Concat.{flat_map-append}
 use Rattle.std.proofs.lemmas.List.Folds.{list_all-append, flat_map-map}
@@ -10,7 +10,8 @@ use Rattle.vd_logic.specs.declared.term.Term.{Term, Num, Var, Named, Global, App
 use Rattle.vd_logic.specs.Layers.{fold-Num, fold-Var, fold-Named, fold-Global, fold-App}
 use Rattle.vd_heads.specs.declared.table.Space.TheVariants as space
 use Rattle.vd_heads.specs.Declaration.{Bytes}
-use Rattle.vd_known.specs.Known.{Need, term_needs, term_layer, joined}
+use Rattle.vd_heads.specs.declared.view.View.{View}
+use Rattle.vd_known.specs.Known.{Need, is_met, term_needs, term_layer, joined}
 
 module _ {A : Type 0} (met : Need → Bool) (needs : A → List Need) where
   pub all_more : (xs : List A) (i : ℕ) (x : A) → i < length xs → x ≡ get_or xs i x → list_all met (needs x) ≡ true → list_all met (flat_map needs (take i xs)) ≡ true → list_all met (flat_map needs (take (i + 1) xs)) ≡ true
@@ -39,6 +40,11 @@ met_one met n = go (met n) where
   go : (b : Bool) → b ≡ b && true
   go true = refl
   go false = refl
+
+-- a name for which nothing stands
+pub stray_fails : (view : View) (b r : Bool) (ns : List Need) → r ≡ b → r ≡ false → r ≡ list_all (is_met view) (cond b [] (None ∷ []) ++ ns)
+unfolding is_met
+stray_fails view b r ns e f = f ∙ ap (λ x. list_all (is_met view) (cond x [] (None ∷ []) ++ ns)) (sym f ∙ e)
 
 -- ---- terms
 

@@ -1,4 +1,4 @@
-use Rattle.std.proofs.Common.{◌≡◌, ◌×◌, take}
+use Rattle.std.proofs.Common.{◌≡◌, take}
 use Rattle.vd_known.specs.Known as known
 use Rattle.vd_known.specs.Names.{IsSet, names_of}
 use Rattle.vd_known.proofs.known.field_names.Given as goal
