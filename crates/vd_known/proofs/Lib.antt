@@ -1,4 +1,4 @@
 mod NameLaws
 mod Needs
-mod Least
+mod LeastLaws
 mod Unknown

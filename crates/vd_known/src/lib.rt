@@ -3,6 +3,7 @@
 
 mod completeness;
 mod known;
+mod least;
 mod names;
 mod twice;
 

@@ -1,7 +1,7 @@
 use Rattle.std.proofs.Common.{◌≡◌, ◌+◌, false, true, sym, ◌∙◌, subst, rules}
 use Rattle.vd_heads.specs.Least.{IsLeastOrNone}
 use Rattle.vd_known.specs.Known.{IsUnknown}
-use Rattle.vd_known.proofs.Least.{Among, least_none, least_next, least_kept, least_all}
+use Rattle.vd_known.proofs.LeastLaws.{Among, least_none, least_next, least_kept, least_all}
 use Rattle.vd_known.proofs.Unknown.{unknown_found, none_unknown}
 use Rattle.vd_known.proofs.known.first_unknown.Goals as goal
 use Rattle.vd_known.proofs.known.first_unknown.Goals.{then-not-branch, else-not-branch}
