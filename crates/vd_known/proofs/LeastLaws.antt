@@ -8,6 +8,7 @@ use Rattle.vd_heads.specs.declared.content.HeadSection.{HeadSection}
 use Rattle.vd_heads.specs.declared.content.Part.{Part}
 use Rattle.vd_heads.specs.Declaration.{IsSection, section_at, sections_in}
 use Rattle.vd_heads.specs.Least.{IsLeastOrNone, IsPlaceOf, lesser}
+use Rattle.vd_known.specs.Clash.{least_joined}
 
 -- the same places
 pub least_same : {F G : ℕ → Type 0} (o : Option ℕ) → ((at : ℕ) → F at → G at) → ((at : ℕ) → G at → F at) → IsLeastOrNone F o → IsLeastOrNone G o
@@ -23,6 +24,48 @@ least_more None x h = (inr refl, λ at g. elim g [ inl f ↦ absurd (h at f) | i
 least_more {F} (Some p) x h = elim (min_cases p x) [
       inl m ↦ (inl (subst F (sym m.0) h.0), λ at g. elim g [ inl f ↦ (let k : p ≤ at = h.1 at f in let e = m.0 in omega arith) | inr e ↦ (let d = m.0 in let k = m.1 in omega arith) ])
     | inr m ↦ (inr m.0, λ at g. elim g [ inl f ↦ (let k : p ≤ at = h.1 at f in let d = m.0 in let j = m.1 in omega arith) | inr e ↦ (let d = m.0 in omega arith) ])
+    ]
+
+-- two places, of those that there are
+pub least_both : (F G : ℕ → Type 0) (o r : Option ℕ) → IsLeastOrNone F o → IsLeastOrNone G r → IsLeastOrNone (λ at. F at ⊎ G at) (least_joined o r)
+least_both F G None None f g = λ at h. elim h [ inl a ↦ f at a | inr b ↦ g at b ]
+least_both F G (Some p) None f g = (inl f.0, λ at h. elim h [ inl a ↦ f.1 at a | inr b ↦ absurd (g at b) ])
+least_both F G None (Some x) f g = (inr g.0, λ at h. elim h [ inl a ↦ absurd (f at a) | inr b ↦ g.1 at b ])
+least_both F G (Some p) (Some x) f g = elim (min_cases p x) [
+      inl m ↦ (inl (subst F (sym m.0) f.0), λ at h. elim h [ inl a ↦ (let k : p ≤ at = f.1 at a in let e = m.0 in omega arith) | inr b ↦ (let k : x ≤ at = g.1 at b in let e = m.0 in let j = m.1 in omega arith) ])
+    | inr m ↦ (inr (subst G (sym m.0) g.0), λ at h. elim h [ inl a ↦ (let k : p ≤ at = f.1 at a in let e = m.0 in let j = m.1 in omega arith) | inr b ↦ (let k : x ≤ at = g.1 at b in let e = m.0 in omega arith) ])
+    ]
+
+-- One of the first n items has this place.
+pub record Items {A : Type 0} (G : A → ℕ → Type 0) (xs : List A) (n place : ℕ) : Type 0 where
+  pub number : ℕ
+  pub item : A
+  pub within : number < n
+  pub stands : slice_get xs number ≡ Some item
+  pub holds : G item place
+
+item_stands : {A : Type 0} (xs : List A) (n : ℕ) (x : A) → n < length xs → x ≡ get_or xs n x → slice_get xs n ≡ Some x
+item_stands [] n h below at = absurd (omega (arith, below))
+item_stands (g ∷ hs) zero h below at = ap Some (sym at)
+item_stands (g ∷ hs) (suc n) h below at = item_stands hs n h (omega (arith, below)) at
+
+same_item : {A : Type 0} {x y : A} → Some x ≡ Some y → x ≡ y
+same_item e = cc
+
+pub items_none : {A : Type 0} (G : A → ℕ → Type 0) (xs : List A) → IsLeastOrNone (Items G xs 0) None
+items_none G xs = λ at h. let w = h.within in absurd (omega (arith, w))
+
+pub items_next : {A : Type 0} (G : A → ℕ → Type 0) (xs : List A) (n : ℕ) (x : A) (o r : Option ℕ) → n < length xs → x ≡ get_or xs n x → IsLeastOrNone (G x) r → IsLeastOrNone (Items G xs n) o → IsLeastOrNone (Items G xs (n + 1)) (least_joined o r)
+items_next G xs n x o r below at new all = least_same (least_joined o r) to from (least_both (Items G xs n) (G x) o r all new) where
+  to : (place : ℕ) → Items G xs n place ⊎ G x place → Items G xs (n + 1) place
+  to place (inl a) = record { number = a.number; item = a.item; within = (let w = a.within in omega (arith, w)); stands = a.stands; holds = a.holds }
+  to place (inr g) = record { number = n; item = x; within = omega arith; stands = item_stands xs n x below at; holds = g }
+
+  from : (place : ℕ) → Items G xs (n + 1) place → Items G xs n place ⊎ G x place
+  from place a = elim (cases_lt a.number n) [
+      inr k ↦ (let w = a.within in let e : a.number ≡ n = omega (arith, w, k) in
+        inr (subst (λ y. G y place) (same_item (sym a.stands ∙ (ap (slice_get xs) e ∙ item_stands xs n x below at))) a.holds))
+    | inl k ↦ inl (record { number = a.number; item = a.item; within = k; stands = a.stands; holds = a.holds })
     ]
 
 -- It is so of what one of the first n sections says, and this is that section's place.

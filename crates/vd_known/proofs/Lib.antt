@@ -2,3 +2,6 @@ mod NameLaws
 mod Needs
 mod LeastLaws
 mod Unknown
+mod TwinLaws
+mod ClashLaws
+mod PlaceLaws

@@ -47,7 +47,7 @@ fn is_spec(content: &Content) -> bool
 }
 
 fn both_define(own: Option<&Content>, other: Option<&Content>) -> bool
-    ensures { result ≡ clash.both_define (option_copied own) (option_copied other) }
+    ensures { result ≡ clash.both_define (option_copied own.entry) (option_copied other.entry) }
 {
     match own {
         None => false,
@@ -79,6 +79,7 @@ fn clashes(view: &View<'_>, first: Spot, other: Spot) -> bool
 }
 
 /// Whether a section is seen, and one of others with which it is two declarations.
+#[tactic(auto, unfolding(crate::specs::Clash::clash_among))]
 fn clash_among(view: &View<'_>, first: Spot, others: &[Spot]) -> bool
     ensures { result ≡ clash.clash_among view.now first others.now }
 {
