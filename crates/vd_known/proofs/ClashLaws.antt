@@ -132,7 +132,7 @@ defined v x y c d is said_x said_y e =
     ∙ (ap (λ b. b && both_define (said_at v x) (said_at v y)) ((is.exported y.part).1 e.exported)
     ∙ (ap (λ o. both_define o (said_at v y)) said_x ∙ (ap (both_define (Some c)) said_y ∙ e.defined)))
 
-true_not_false : (b : Bool) → b ≡ true → b ≡ false → ⊥
+pub true_not_false : (b : Bool) → b ≡ true → b ≡ false → ⊥
 true_not_false true e f = cc
 true_not_false false e f = cc
 

@@ -68,6 +68,15 @@ items_next G xs n x o r below at new all = least_same (least_joined o r) to from
     | inl k ↦ inl (record { number = a.number; item = a.item; within = k; stands = a.stands; holds = a.holds })
     ]
 
+default_free : {A : Type 0} (xs : List A) (n : ℕ) (d e : A) → n < length xs → get_or xs n d ≡ get_or xs n e
+default_free [] n d e below = absurd (omega (arith, below))
+default_free (x ∷ xs) zero d e below = refl
+default_free (x ∷ xs) (suc n) d e below = default_free xs n d e (omega (arith, below))
+
+-- the same, of an item as it is read
+pub items_read : {A : Type 0} (G : A → ℕ → Type 0) (xs : List A) (n : ℕ) (d : A) (o r : Option ℕ) → n < length xs → IsLeastOrNone (G (get_or xs n d)) r → IsLeastOrNone (Items G xs n) o → IsLeastOrNone (Items G xs (n + 1)) (least_joined o r)
+items_read G xs n d o r below new all = items_next G xs n (get_or xs n d) o r below (default_free xs n d (get_or xs n d) below) new all
+
 -- It is so of what one of the first n sections says, and this is that section's place.
 pub record Among (P : Content → Type 0) (hs : List HeadSection) (n place : ℕ) : Type 0 where
   pub number : ℕ
