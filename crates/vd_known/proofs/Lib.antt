@@ -5,3 +5,4 @@ mod Unknown
 mod TwinLaws
 mod ClashLaws
 mod PlaceLaws
+mod LineLaws
