@@ -50,11 +50,11 @@ or_either : (a b : Bool) → a || b ≡ true → (a ≡ true) ⊎ (b ≡ true)
 or_either true b e = inl refl
 or_either false b e = inr e
 
-any_at : (p : Spot → Bool) (xs : List Spot) → list_any p xs ≡ true → (m : ℕ) × (y : Spot) × (slice_get xs m ≡ Some y) × (p y ≡ true)
+pub any_at : (p : Spot → Bool) (xs : List Spot) → list_any p xs ≡ true → (m : ℕ) × (y : Spot) × (slice_get xs m ≡ Some y) × (p y ≡ true)
 any_at p [] e = cc
 any_at p (x ∷ xs) e = elim (or_either (p x) (list_any p xs) e) [ inl h ↦ (0, x, refl, h) | inr h ↦ (let r = any_at p xs h in (suc r.0, r.1, r.2, r.3)) ]
 
-at_any : (p : Spot → Bool) (xs : List Spot) (m : ℕ) (y : Spot) → slice_get xs m ≡ Some y → p y ≡ true → list_any p xs ≡ true
+pub at_any : (p : Spot → Bool) (xs : List Spot) (m : ℕ) (y : Spot) → slice_get xs m ≡ Some y → p y ≡ true → list_any p xs ≡ true
 at_any p [] m y at e = cc
 at_any p (x ∷ xs) zero y at e = ap (λ b. b || list_any p xs) (ap p (same at) ∙ e) where
   same : {a b : Spot} → Some a ≡ Some b → a ≡ b
@@ -115,7 +115,7 @@ clash_whole v (z ∷ xs) (suc j) (suc m) x y below at_x at_y seen other forth ba
 said : (v : View) (s : Space) (name : Bytes) (x : Spot) (c : Content) → IsDeclared v.parts.now s name x.part x.section c → said_at v x ≡ Some c
 said v s name x c d = ap (option_map (λ h. h.content)) d.stands ∙ ap Some d.says
 
-is_same : (a b : ℕ) → a == b ≡ true → a ≡ b
+pub is_same : (a b : ℕ) → a == b ≡ true → a ≡ b
 is_same a b e = grind (arith, nat_tests)
 
 defining : (v : View) (x y : Spot) (c d : Content) → IsView v → said_at v x ≡ Some c → said_at v y ≡ Some d → defines_at v x y ≡ true → IsDefinition v.parts.now v.own x.part c y.part d
@@ -136,7 +136,7 @@ pub true_not_false : (b : Bool) → b ≡ true → b ≡ false → ⊥
 true_not_false true e f = cc
 true_not_false false e f = cc
 
-to_false : (b : Bool) → (b ≡ true → ⊥) → b ≡ false
+pub to_false : (b : Bool) → (b ≡ true → ⊥) → b ≡ false
 to_false true h = absurd (h refl)
 to_false false h = refl
 

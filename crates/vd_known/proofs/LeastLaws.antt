@@ -44,7 +44,7 @@ pub record Items {A : Type 0} (G : A → ℕ → Type 0) (xs : List A) (n place 
   pub stands : slice_get xs number ≡ Some item
   pub holds : G item place
 
-item_stands : {A : Type 0} (xs : List A) (n : ℕ) (x : A) → n < length xs → x ≡ get_or xs n x → slice_get xs n ≡ Some x
+pub item_stands : {A : Type 0} (xs : List A) (n : ℕ) (x : A) → n < length xs → x ≡ get_or xs n x → slice_get xs n ≡ Some x
 item_stands [] n h below at = absurd (omega (arith, below))
 item_stands (g ∷ hs) zero h below at = ap Some (sym at)
 item_stands (g ∷ hs) (suc n) h below at = item_stands hs n h (omega (arith, below)) at

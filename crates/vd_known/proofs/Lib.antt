@@ -6,3 +6,4 @@ mod TwinLaws
 mod ClashLaws
 mod PlaceLaws
 mod LineLaws
+mod OwnLaws

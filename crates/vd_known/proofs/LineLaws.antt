@@ -1,21 +1,23 @@
 -- Header lines of a text, one after the other, and the names in them.
-use Rattle.std.proofs.Common.{◌≡◌, ◌↔◌, ◌⊎◌, ℕ, zero, suc, ◌<◌, Bool, true, false, ◌||◌, List, [], ◌∷◌, ◌++◌, length, get_or, All, Some, Result, Ok, Err, OnOk, inl, inr, refl, ap, sym, ◌∙◌, subst, arith, append_assoc, append-nil}
+use Rattle.std.proofs.Common.{◌≡◌, ◌↔◌, ◌⊎◌, ℕ, zero, suc, ◌<◌, Bool, true, false, ◌||◌, List, [], ◌∷◌, ◌++◌, length, get_or, All, Some, Result, Ok, Err, OnOk, inl, inr, refl, ap, sym, ◌∙◌, subst, arith, append_assoc, length-append}
 use Rattle.std.proofs.lemmas.List.Folds.{list_any-append}
-use Rattle.std.proofs.lemmas.List.Elements.{All-head, All-tail, Contains-push, Contains-push_cases, Contains-append_left}
+use Rattle.std.proofs.lemmas.List.Elements.{All-nil, All-head, All-tail, All-push, Contains-push, Contains-push_cases, Contains-append_left}
 use Rattle.std.proofs.lemmas.Slice.Eq.{bytes_eq-Decides}
 use Rattle.std.specs.List.{Contains, list_any}
 use Rattle.std.specs.Str.{bytes_eq}
 use Rattle.vd_outline.specs.declared.section.SectionKind.{SectionKind}
+use Rattle.vd_outline.specs.declared.section.SectionKind.TheVariants as section
 use Rattle.vd_outline.specs.Lines.{lacks, joined}
 use Rattle.vd_outline.specs.Outline.{header_line, section_word}
 use Rattle.vd_outline.proofs.BodyLaws.{joined-append}
 use Rattle.vd_outline.proofs.Cuts.{uncut, cut_unique, lacks_head, lacks_rest}
 use Rattle.vd_outline.proofs.WordLaws.{lacks_section_word}
 use Rattle.vd_heads.specs.Declaration.{Bytes}
+use Rattle.vd_known.specs.declared.completeness.Bodies.{Bodies}
 use Rattle.vd_known.specs.declared.names.Names.{Names}
 use Rattle.vd_known.specs.Completeness.{HasLine, Stands}
-use Rattle.vd_known.specs.HeaderNames.{IsIn}
-use Rattle.vd_known.specs.Names.{names_of}
+use Rattle.vd_known.specs.HeaderNames.{IsIn, AreBodies}
+use Rattle.vd_known.specs.Names.{names_of, IsSet}
 
 -- ---- the name behind a word
 
@@ -121,3 +123,56 @@ pub all_read : (kind : SectionKind) (text rest : Bytes) (ls : List Bytes) (names
 all_read kind text rest ls names read last named f =
     (λ h. let k = (named f).0 h in subst (λ t. HasLine t (section_word kind ++ 32 ∷ f)) (sym read.cut) (among_line ls rest k.0 (section_word kind ++ 32 ∷ f) read.whole k.1 k.2),
      λ h. (named f).1 (line_among ls rest h.before (section_word kind ++ 32 ∷ f) h.after read.whole last h.one h.begins (sym read.cut ∙ h.cut)))
+
+-- What is known of a text whose first lines are read.
+pub record SoFar (text rest : Bytes) (functions scripts subs : Names) : Type 0 where
+  pub lines : List Bytes
+  pub read : Read text rest lines
+  pub functions_set : IsSet functions
+  pub scripts_set : IsSet scripts
+  pub subs_set : IsSet subs
+  pub functions_named : HasNames section.Fn lines functions
+  pub scripts_named : HasNames section.Script lines scripts
+  pub subs_named : HasNames section.Sub lines subs
+
+none_named : (kind : SectionKind) (names : Names) → names_of names ≡ [] → HasNames kind [] names
+none_named kind names e f = (λ h. absurd (let g : list_any (bytes_eq f) (names_of names) ≡ false = ap (list_any (bytes_eq f)) e in let k : list_any (bytes_eq f) (names_of names) ≡ true = h in cc), λ h. absurd (let w : h.0 < 0 = h.1 in omega (arith, w)))
+
+more_named : (kind : SectionKind) (ls : List Bytes) (line : Bytes) (old new : Names) → HasNames kind ls old → ((f : Bytes) → IsIn new f ↔ (IsIn old f ⊎ (line ≡ section_word kind ++ 32 ∷ f))) → HasNames kind (ls ++ line ∷ []) new
+more_named kind ls line old new named more f =
+    (λ h. elim ((more f).0 h) [ inl a ↦ Contains-append_left ls (line ∷ []) (section_word kind ++ 32 ∷ f) ((named f).0 a) | inr b ↦ subst (Contains (ls ++ line ∷ [])) b (Contains-push ls line) ],
+     λ h. (more f).1 (elim (Contains-push_cases ls line (section_word kind ++ 32 ∷ f) h) [ inl a ↦ inl ((named f).1 a) | inr b ↦ inr b ]))
+
+pub nothing_read : (text rest : Bytes) (functions scripts subs : Names) → text ≡ rest → IsSet functions → IsSet scripts → IsSet subs → names_of functions ≡ [] → names_of scripts ≡ [] → names_of subs ≡ [] → SoFar text rest functions scripts subs
+nothing_read text rest functions scripts subs e a b c no_a no_b no_c = record {
+  lines = [];
+  read = record { cut = e; whole = All-nil (λ l. lacks 10 l ≡ true) };
+  functions_set = a; scripts_set = b; subs_set = c;
+  functions_named = none_named section.Fn functions no_a; scripts_named = none_named section.Script scripts no_b; subs_named = none_named section.Sub subs no_c;
+}
+
+pub one_read : (text rest line after : Bytes) (functions scripts subs more_functions more_scripts more_subs : Names) → SoFar text rest functions scripts subs → rest ≡ line ++ 10 ∷ after → lacks 10 line ≡ true
+    → IsSet more_functions → IsSet more_scripts → IsSet more_subs
+    → ((f : Bytes) → IsIn more_functions f ↔ (IsIn functions f ⊎ (line ≡ section_word section.Fn ++ 32 ∷ f)))
+    → ((f : Bytes) → IsIn more_scripts f ↔ (IsIn scripts f ⊎ (line ≡ section_word section.Script ++ 32 ∷ f)))
+    → ((f : Bytes) → IsIn more_subs f ↔ (IsIn subs f ⊎ (line ≡ section_word section.Sub ++ 32 ∷ f)))
+    → SoFar text after more_functions more_scripts more_subs
+one_read text rest line after functions scripts subs more_functions more_scripts more_subs s cut one a b c named_a named_b named_c = record {
+  lines = s.lines ++ line ∷ [];
+  read = record {
+    cut = s.read.cut ∙ (ap (λ r. joined s.lines ++ r) cut ∙ (sym (append_assoc (joined s.lines) (line ++ 10 ∷ []) after ∙ ap (λ r. joined s.lines ++ r) (append_assoc line (10 ∷ []) after)) ∙ ap (λ j. j ++ after) (sym (joined-append s.lines (line ∷ [])))));
+    whole = All-push (λ l. lacks 10 l ≡ true) s.lines line s.read.whole one;
+  };
+  functions_set = a; scripts_set = b; subs_set = c;
+  functions_named = more_named section.Fn s.lines line functions more_functions s.functions_named named_a;
+  scripts_named = more_named section.Script s.lines line scripts more_scripts s.scripts_named named_b;
+  subs_named = more_named section.Sub s.lines line subs more_subs s.subs_named named_c;
+}
+
+pub bodies_read : (text rest : Bytes) (bodies : Bodies) → SoFar text rest bodies.functions bodies.scripts bodies.subs → lacks 10 rest ≡ true → AreBodies text bodies
+bodies_read text rest bodies s last = record {
+  functions = record { set = s.functions_set; named = all_read section.Fn text rest s.lines bodies.functions s.read last s.functions_named };
+  scripts = record { set = s.scripts_set; named = all_read section.Script text rest s.lines bodies.scripts s.read last s.scripts_named };
+  subs = record { set = s.subs_set; named = all_read section.Sub text rest s.lines bodies.subs s.read last s.subs_named };
+}
+

@@ -67,7 +67,7 @@ impl<'a> Bodies<'a> {
         let mut scripts = Names::new(alloc);
         let mut subs = Names::new(alloc);
         let mut rest = lines.as_bytes();
-        while let Some((line, after)) = cut_at(rest, b'\n') {
+        'lines: while let Some((line, after)) = cut_at(rest, b'\n') {
             add_named(&mut functions, SectionKind::Fn, line)?;
             add_named(&mut scripts, SectionKind::Script, line)?;
             add_named(&mut subs, SectionKind::Sub, line)?;
