@@ -1,6 +1,6 @@
 -- How the closure of a part is found.
-use Rattle.std.proofs.Common.{◌≡◌, ◌↔◌, ℕ, zero, suc, ◌+◌, ◌<◌, ◌≤◌, Bool, true, false, ◌||◌, List, [], ◌∷◌, ◌++◌, length, get_or, take, Option, None, Some, ◌⊎◌, inl, inr, refl, ap, sym, ◌∙◌, subst, arith}
-use Rattle.std.specs.List.{slice_get, list_any, count_by}
+use Rattle.std.proofs.Common.{◌≡◌, ◌↔◌, ℕ, zero, suc, ◌+◌, ◌<◌, ◌≤◌, Bool, true, false, ◌||◌, List, [], ◌∷◌, length, get_or, take, Option, None, Some, ◌⊎◌, inl, inr, refl, ap, sym, ◌∙◌, subst, arith}
+use Rattle.std.specs.List.{slice_get}
 use Rattle.std.specs.Option.{option_and_then}
 use Rattle.std.specs.Str.{bytes_eq}
 use Rattle.std.proofs.lemmas.Bool.{cases_eq, false≢true}
@@ -16,7 +16,7 @@ use Rattle.vd_heads.specs.declared.content.Part.{Part}
 use Rattle.vd_heads.specs.declared.part_set.PartSet.{PartSet}
 use Rattle.vd_heads.specs.declared.table.Table.{Table}
 use Rattle.vd_outline.specs.declared.outline.TextKind.TheVariants as text
-use Rattle.vd_heads.specs.Closure.{lists, mentioned, exported, Mentions, Reaches, itself, further, Exports, IsUnit, heads_interface, interface_at}
+use Rattle.vd_heads.specs.Closure.{lists, mentioned, exported, Mentions, Reaches, itself, further, Exports, heads_interface, interface_at}
 use Rattle.vd_heads.specs.Declaration.{Bytes}
 use Rattle.vd_heads.specs.PartSet.{Adds, IsPartSet, IsMentioned, IsMentionedBelow}
 use Rattle.vd_heads.specs.Views.{IsTable, interface_in, is_marked}
@@ -46,13 +46,13 @@ pub mentioned_more : (t : Table) (ms : List Mention) (i : ℕ) (m : Mention) (s 
 mentioned_more t ms i m s u v within at before now =
     adds_both (IsMentioned t (take i ms)) (λ k. interface_in t m.name ≡ Some k) (IsMentioned t (take (i + 1) ms)) s u v before now
     (λ k r. elim (or_true (lists r.0 (take i ms)) (bytes_eq (get_or ms i m).name r.0) (sym (more r.0) ∙ r.1)) [
-        inl old ↦ inl (r.0, old, r.2)
+      | inl old ↦ inl (r.0, old, r.2)
       | inr new ↦ inr (ap (interface_in t) ((bytes_eq-Decides m.name r.0).0 (ap (λ x. bytes_eq x.name r.0) at ∙ new)) ∙ r.2)
-      ])
+    ])
     (λ k p. (p.0, more p.0 ∙ or_left _ _ p.1, p.2))
     (λ k q. (m.name, more m.name ∙ or_right (lists m.name (take i ms)) _ (ap (λ x. bytes_eq x.name m.name) (sym at) ∙ (bytes_eq-Decides m.name m.name).1 refl), q)) where
-  more : (name : Bytes) → lists name (take (i + 1) ms) ≡ (lists name (take i ms) || bytes_eq (get_or ms i m).name name)
-  more name = list_any_more (λ x. bytes_eq x.name name) ms i m within
+      more : (name : Bytes) → lists name (take (i + 1) ms) ≡ (lists name (take i ms) || bytes_eq (get_or ms i m).name name)
+      more name = list_any_more (λ x. bytes_eq x.name name) ms i m within
 
 -- ---- sections
 
@@ -66,15 +66,17 @@ below_more t taken hs i h ms s u v within at taken_is before now =
     (λ k r. split k r.0 r.1 r.2 r.3 r.4)
     (λ k p. (p.0, p.1, (let b = p.2 in omega (arith, b)), p.3, p.4))
     (λ k q. (i, h, omega arith, here, q)) where
-  here : slice_get hs i ≡ Some h
-  here = slice_get_read hs (length hs) i h refl within at
-  some_same : {x y : HeadSection} → Some x ≡ Some y → x ≡ y
-  some_same e = cc
-  split : (k j : ℕ) (x : HeadSection) → j < i + 1 → slice_get hs j ≡ Some x → IsMentioned t (taken x.content) k → IsMentionedBelow t taken hs i k ⊎ IsMentioned t (taken h.content) k
-  split k j x below stands m = elim (cases_eq j i) [
-      inl same ↦ inr (let P : HeadSection → Type 0 = λ y. IsMentioned t (taken y.content) k in subst P (some_same (sym stands ∙ (ap (slice_get hs) same ∙ here))) m)
-    | inr other ↦ inl (j, x, omega arith, stands, m)
-    ]
+      here : slice_get hs i ≡ Some h
+      here = slice_get_read hs (length hs) i h refl within at
+
+      some_same : {x y : HeadSection} → Some x ≡ Some y → x ≡ y
+      some_same e = cc
+
+      split : (k j : ℕ) (x : HeadSection) → j < i + 1 → slice_get hs j ≡ Some x → IsMentioned t (taken x.content) k → IsMentionedBelow t taken hs i k ⊎ IsMentioned t (taken h.content) k
+      split k j x below stands m = elim (cases_eq j i) [
+        | inl same ↦ inr (let P : HeadSection → Type 0 = λ y. IsMentioned t (taken y.content) k in subst P (some_same (sym stands ∙ (ap (slice_get hs) same ∙ here))) m)
+        | inr other ↦ inl (j, x, omega arith, stands, m)
+      ]
 
 -- ---- parts
 
@@ -85,7 +87,7 @@ mentions_of parts t number part is stands hs own s u adds =
     adds_as (IsMentionedBelow t mentioned part.sections (length part.sections)) (Mentions parts number) s u
     (λ k m. record { number = m.0; section = m.1; name = m.4.0; stands = ap (option_and_then (λ p. slice_get p.sections m.0)) stands ∙ m.3; mentioned = m.4.1; is = sym (is.interfaces m.4.0) ∙ m.4.2 })
     (λ k m. let at : slice_get part.sections m.number ≡ Some m.section = ap (option_and_then (λ p. slice_get p.sections m.number)) (sym stands) ∙ m.stands in
-        (m.number, m.section, slice_get_within part.sections m.number m.section at, at, (m.name, m.mentioned, is.interfaces m.name ∙ m.is)))
+    (m.number, m.section, slice_get_within part.sections m.number m.section at, at, (m.name, m.mentioned, is.interfaces m.name ∙ m.is)))
     (subst P own adds)
 
 pub mentions_none : (parts : List Part) (number : ℕ) → slice_get parts number ≡ None → (s : PartSet) → IsPartSet s → Adds (Mentions parts number) s s
@@ -112,10 +114,17 @@ pub exports_as : (parts : List Part) (t : Table) (number : ℕ) (part : Part) �
 exports_as parts t number part is stands unit hs own s u adds =
     let P : List HeadSection → Type 0 = λ xs. Adds (IsMentionedBelow t exported xs (length xs)) s u in
     adds_as (IsMentionedBelow t exported part.sections (length part.sections)) (Exports parts number) s u
-    (λ k m. record { number = m.0; section = m.1; name = m.4.0; unit = record { part = part; name = unit.0; stands = stands; headed = unit.1 };
-        stands = ap (option_and_then (λ p. slice_get p.sections m.0)) stands ∙ m.3; exported = m.4.1; is = sym (is.interfaces m.4.0) ∙ m.4.2 })
+    (λ k m. record {
+      number = m.0;
+      section = m.1;
+      name = m.4.0;
+      unit = record { part = part; name = unit.0; stands = stands; headed = unit.1 };
+      stands = ap (option_and_then (λ p. slice_get p.sections m.0)) stands ∙ m.3;
+      exported = m.4.1;
+      is = sym (is.interfaces m.4.0) ∙ m.4.2;
+    })
     (λ k m. let at : slice_get part.sections m.number ≡ Some m.section = ap (option_and_then (λ p. slice_get p.sections m.number)) (sym stands) ∙ m.stands in
-        (m.number, m.section, slice_get_within part.sections m.number m.section at, at, (m.name, m.exported, is.interfaces m.name ∙ m.is)))
+    (m.number, m.section, slice_get_within part.sections m.number m.section at, at, (m.name, m.exported, is.interfaces m.name ∙ m.is)))
     (subst P own adds)
 
 pub exports_nothing : (parts : List Part) (number : ℕ) (part : Part) → slice_get parts number ≡ Some part → (((name : Bytes) × (part.head ≡ Some (text.Unit, name))) → ⊥) → (s : PartSet) → IsPartSet s → Adds (Exports parts number) s s
@@ -136,9 +145,10 @@ exports_below parts k n m = go parts m.is where
 
 pub exports_marked : (parts : List Part) (of : ℕ) (s u : PartSet) → length s.marks.items ≡ length parts → ((k : ℕ) → is_marked s.marks.items k ≡ false) → Adds (Exports parts of) s u
     → (n : ℕ) → (is_marked u.marks.items n ≡ true) ↔ Exports parts of n
-exports_marked parts of s u long none adds n =
-    (λ h. elim (adds.only n h) [ inl old ↦ absurd (false≢true (sym (none n) ∙ old)) | inr e ↦ e ],
-     λ e. adds.added n (let b = exports_below parts of n e in omega (arith, b, long)) e)
+exports_marked parts of s u long none adds n = (
+  λ h. elim (adds.only n h) [ inl old ↦ absurd (false≢true (sym (none n) ∙ old)) | inr e ↦ e ],
+  λ e. adds.added n (let b = exports_below parts of n e in omega (arith, b, long)) e,
+)
 
 -- ---- the closure
 
@@ -172,20 +182,25 @@ found_more parts from n s t f adds = record {
 } where
   here : (k m : ℕ) → slice_get s.members.items n ≡ Some k → Mentions parts k m → is_marked t.marks.items m ≡ true
   here k m at mentions = adds.added m (let b = mentions_below parts k m mentions in let l = f.long in omega (arith, b, l)) (k, at, mentions)
+
   old : (j k m : ℕ) → j < n + 1 → slice_get s.members.items j ≡ Some k → Mentions parts k m → is_marked t.marks.items m ≡ true
   old j k m below at mentions = elim (cases_eq j n) [
-      inl same ↦ here k m (ap (slice_get s.members.items) (sym same) ∙ at) mentions
+    | inl same ↦ here k m (ap (slice_get s.members.items) (sym same) ∙ at) mentions
     | inr other ↦ adds.kept m (f.closed j k m (omega arith) at mentions)
-    ]
+  ]
+
   same_some : (a b : ℕ) → Some a ≡ Some b → a ≡ b
   same_some a b e = cc
+
   past : (xs : List ℕ) (j : ℕ) → slice_get xs j ≡ None → length xs ≤ j
   past [] j e = omega arith
   past (x ∷ xs) zero e = cc
   past (x ∷ xs) (suc j) e = let h = past xs j e in omega arith
+
   -- nothing is followed behind the last member
   behind : (j : ℕ) → j < n + 1 → slice_get s.members.items j ≡ None → (m : ℕ) → Followed parts s n m → ⊥
   behind j below e m w = let p = past s.members.items j e in let q = slice_get_within s.members.items n w.0 w.1 in omega (arith, p, q)
+
   go : (j k m : ℕ) → j < n + 1 → slice_get t.members.items j ≡ Some k → Mentions parts k m → (o : Option ℕ) → slice_get s.members.items j ≡ o → is_marked t.marks.items m ≡ true
   go j k m below at mentions (Some l) e = old j k m below (e ∙ (sym (adds.order j l e) ∙ at)) mentions
   go j k m below at mentions None e =
@@ -206,6 +221,7 @@ reached_marked parts from n s all f k (further {m = m} r mentions) within =
     f.closed l.0 m k (omega (arith, q, c, b, g)) l.1 mentions
 
 pub found_all : (parts : List Part) (from n : ℕ) (s : PartSet) → length parts ≤ n → Found parts from n s → (k : ℕ) → (is_marked s.marks.items k ≡ true) ↔ ((k < length parts) × Reaches parts from k)
-found_all parts from n s all f k =
-    (λ h. ((let w = marked_within s.marks.items k h in let l = f.long in omega (arith, w, l)), f.sound k h),
-     λ r. reached_marked parts from n s all f k r.1 r.0)
+found_all parts from n s all f k = (
+  λ h. ((let w = marked_within s.marks.items k h in let l = f.long in omega (arith, w, l)), f.sound k h),
+  λ r. reached_marked parts from n s all f k r.1 r.0,
+)

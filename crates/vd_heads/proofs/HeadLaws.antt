@@ -26,11 +26,11 @@ pub lines_kept : {A : Type 0} (keeps : A → Bool) (line : A → List ℕ) (xs y
     → so_far ≡ joined (map line (filter keeps (take n ys))) → new ≡ so_far ++ (line x ++ 10 ∷ []) → new ≡ joined (map line (filter keeps (take (n + 1) ys)))
 lines_kept keeps line xs ys n x so_far new same below at k e f =
     subst (λ zs. so_far ≡ joined (map line (filter keeps (take n zs))) → new ≡ joined (map line (filter keeps (take (n + 1) zs)))) same
-      (λ e. f ∙ (ap (λ s. s ++ (line x ++ 10 ∷ [])) e ∙ sym (lines_next keeps line xs n x below at ∙ ap (λ b. cond b (joined (map line (filter keeps (take n xs))) ++ (line x ++ 10 ∷ [])) (joined (map line (filter keeps (take n xs))))) k))) e
+    (λ e. f ∙ (ap (λ s. s ++ (line x ++ 10 ∷ [])) e ∙ sym (lines_next keeps line xs n x below at ∙ ap (λ b. cond b (joined (map line (filter keeps (take n xs))) ++ (line x ++ 10 ∷ [])) (joined (map line (filter keeps (take n xs))))) k))) e
 
 -- as before, where it is left
 pub lines_left : {A : Type 0} (keeps : A → Bool) (line : A → List ℕ) (xs ys : List A) (n : ℕ) (x : A) (so_far new : List ℕ) → xs ≡ ys → n < length xs → x ≡ get_or xs n x → keeps x ≡ false
     → so_far ≡ joined (map line (filter keeps (take n ys))) → new ≡ so_far → new ≡ joined (map line (filter keeps (take (n + 1) ys)))
 lines_left keeps line xs ys n x so_far new same below at k e f =
     subst (λ zs. so_far ≡ joined (map line (filter keeps (take n zs))) → new ≡ joined (map line (filter keeps (take (n + 1) zs)))) same
-      (λ e. f ∙ (e ∙ sym (lines_next keeps line xs n x below at ∙ ap (λ b. cond b (joined (map line (filter keeps (take n xs))) ++ (line x ++ 10 ∷ [])) (joined (map line (filter keeps (take n xs))))) k))) e
+    (λ e. f ∙ (e ∙ sym (lines_next keeps line xs n x below at ∙ ap (λ b. cond b (joined (map line (filter keeps (take n xs))) ++ (line x ++ 10 ∷ [])) (joined (map line (filter keeps (take n xs))))) k))) e

@@ -1,5 +1,5 @@
 -- The struct that a type holds, by the type's outermost layer.
-use Rattle.std.proofs.Common.{◌≡◌, ℕ, sym, ◌∙◌, ap, Option, Some, None, refl}
+use Rattle.std.proofs.Common.{◌≡◌, ℕ, sym, ◌∙◌, ap, Option, Some, None}
 use Rattle.vd_base.specs.declared.ctype.CType.{CType, CType-F, fold-roll-CType, roll-CType, map-CType}
 use Rattle.vd_base.specs.declared.ctype.CType.TheVariants as typ
 use Rattle.vd_base.specs.declared.ctype.CType.TheVariants.{rolls-Struct, rolls-Array, rolls-Void, rolls-Int, rolls-Unsigned, rolls-Lock, rolls-Pointer}

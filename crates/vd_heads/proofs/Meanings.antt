@@ -1,5 +1,5 @@
 -- What a part sees of a name, and what the name means to it.
-use Rattle.std.proofs.Common.{◌≡◌, ◌↔◌, ◌==◌, ℕ, zero, suc, ◌+◌, ◌<◌, ◌≤◌, Bool, true, false, List, [], ◌∷◌, length, Option, None, Some, ◌⊎◌, inl, inr, refl, ap, sym, ◌∙◌, subst, arith, eq-eqb}
+use Rattle.std.proofs.Common.{◌≡◌, ◌↔◌, ◌==◌, ℕ, zero, suc, ◌<◌, Bool, true, false, List, [], ◌∷◌, length, Option, None, Some, inl, inr, refl, ap, sym, ◌∙◌, subst, arith, eq-eqb}
 use Rattle.std.specs.List.{slice_get, find}
 use Rattle.std.specs.Option.{option_map, is_some}
 use Rattle.std.proofs.lemmas.Bool.{cases_eq, cases_lt, false≢true}
@@ -49,11 +49,14 @@ pub knows_seen : (parts : List Part) (own : ℕ) (s : Space) (name : Bytes) (mar
 knows_seen parts own s name marks is = (to (find p spots) refl, from (find p spots) refl) where
   p : Spot → Bool
   p = λ spot. is_marked marks spot.part
+
   spots : List Spot
   spots = spots_of parts s name
+
   to : (o : Option Spot) → find p spots ≡ o → is_some o ≡ true → Knows parts own s name
   to None e f = cc
   to (Some x) e f = let r = sees_at parts own s name marks is x e in (x.part, x.section, r.0, r.1)
+
   from : (o : Option Spot) → find p spots ≡ o → Knows parts own s name → is_some o ≡ true
   from None e k = absurd (let r = seen_at parts own s name marks is k.0 k.1 k.2 k.3 in false≢true (sym (found_none p spots e r.0 r.1 r.2) ∙ r.3))
   from (Some x) e k = refl
@@ -67,22 +70,25 @@ first_own : (parts : List Part) (own : ℕ) (s : Space) (name : Bytes) (x : Spot
 first_own parts own s name x e = (at, first) where
   spots : List Spot
   spots = spots_of parts s name
+
   f : (j : ℕ) × (slice_get spots j ≡ Some x) × ((x.part == own) ≡ true) × ((m : ℕ) (y : Spot) → m < j → slice_get spots m ≡ Some y → (y.part == own) ≡ false)
   f = found_at (λ spot. spot.part == own) spots x e
+
   at : x.part ≡ own
   at = (Decides-eqb x.part own).0 f.2
+
   first : (j : ℕ) (c : Content) → j < x.section → IsDeclared parts s name own j c → ⊥
   first j c below d = go (declared_spot parts s name own j c d) where
     go : (m : ℕ) × (y : Spot) × (slice_get spots m ≡ Some y) × (y.part ≡ own) × (y.section ≡ j) → ⊥
     go r = elim (cases_eq r.0 f.0) [
-        inl same ↦ (let z : x.section ≡ r.1.section = ap (λ w. w.section) (some_spot (sym f.1 ∙ (ap (slice_get spots) (sym same) ∙ r.2))) in let q = r.4 in omega (arith, z, q, below))
+      | inl same ↦ (let z : x.section ≡ r.1.section = ap (λ w. w.section) (some_spot (sym f.1 ∙ (ap (slice_get spots) (sym same) ∙ r.2))) in let q = r.4 in omega (arith, z, q, below))
       | inr other ↦ side (r.0) r.1 r.2 r.3 r.4 other
-      ] where
+    ] where
       side : (m : ℕ) (y : Spot) → slice_get spots m ≡ Some y → y.part ≡ own → y.section ≡ j → (m ≡ f.0 → ⊥) → ⊥
       side m y there part section other = elim (cases_lt m f.0) [
-          inl before ↦ false≢true (sym (f.3 m y before there) ∙ eq-eqb y.part own part)
+        | inl before ↦ false≢true (sym (f.3 m y before there) ∙ eq-eqb y.part own part)
         | inr not ↦ (let z = spots_ordered parts s name f.0 m x y f.1 there (omega arith) (at ∙ sym part) in omega (arith, z, section, below))
-        ]
+      ]
 
 none_own : (parts : List Part) (own : ℕ) (s : Space) (name : Bytes) → find (λ spot. spot.part == own) (spots_of parts s name) ≡ None → (i : ℕ) (d : Content) → IsDeclared parts s name own i d → ⊥
 none_own parts own s name e i d declared =
@@ -110,6 +116,6 @@ means_seen parts own s name marks is none x e o here =
 pub means_none : (parts : List Part) (own : ℕ) (s : Space) (name : Bytes) (marks : List Bool) → IsClosure parts own marks → find (λ spot. spot.part == own) (spots_of parts s name) ≡ None
     → find (λ spot. is_marked marks spot.part) (spots_of parts s name) ≡ None → MeansOption parts own s name None
 means_none parts own s name marks is none unseen c means = elim means [
-    inl m ↦ none_own parts own s name none m.0 c m.1
+  | inl m ↦ none_own parts own s name none m.0 c m.1
   | inr m ↦ (let r = seen_at parts own s name marks is m.1.0 m.1.1 c m.1.2 in false≢true (sym (found_none (λ spot. is_marked marks spot.part) (spots_of parts s name) unseen r.0 r.1 r.2) ∙ r.3))
-  ]
+]

@@ -1,11 +1,10 @@
 -- What putting parts into a set does.
-use Rattle.std.proofs.Common.{◌≡◌, ◌≢◌, ℕ, zero, suc, ◌+◌, ◌<◌, ◌≤◌, Bool, true, false, cond, List, [], ◌∷◌, ◌++◌, length, get_or, set, Option, None, Some, ◌⊎◌, inl, inr, refl, ap, sym, ◌∙◌, arith}
+use Rattle.std.proofs.Common.{◌≡◌, ℕ, zero, suc, ◌+◌, ◌<◌, ◌≤◌, Bool, true, false, cond, List, [], ◌∷◌, ◌++◌, length, get_or, set, Some, ◌⊎◌, inl, inr, refl, ap, sym, ◌∙◌, arith}
 use Rattle.std.specs.List.{count_by, slice_get}
-use Rattle.std.specs.Option.{unwrap_or}
 use Rattle.std.proofs.lemmas.Bool.{cases_eq, false≢true}
 use Rattle.std.proofs.lemmas.List.{length-set, length_push, get_or-set_same, get_or-set_other}
 use Rattle.std.proofs.lemmas.List.Sums.{sum_by-set, sum_by-cons}
-use Rattle.std.proofs.lemmas.Option.{unwrap_or-slice_get, slice_get_within}
+use Rattle.std.proofs.lemmas.Option.{unwrap_or-slice_get}
 use Rattle.vd_heads.specs.PartSet.{Adds, IsPartSet}
 use Rattle.vd_heads.specs.Views.{is_marked}
 use Rattle.vd_heads.specs.declared.part_set.PartSet.{PartSet}
@@ -46,8 +45,8 @@ marked_push (b ∷ marks) (suc k) none = marked_push marks k (λ j. none (suc j)
 pub marked_set : (marks : List Bool) (n k : ℕ) → n < length marks → is_marked (set marks n true) k ≡ true → (k ≡ n) ⊎ (is_marked marks k ≡ true)
 marked_set marks n k within e =
     elim (cases_eq k n) [
-      inl same ↦ inl same
-    | inr other ↦ inr (marked_at marks k ∙ (sym (get_or-set_other marks n k true false other) ∙ (sym (marked_at (set marks n true) k) ∙ e)))
+      | inl same ↦ inl same
+      | inr other ↦ inr (marked_at marks k ∙ (sym (get_or-set_other marks n k true false other) ∙ (sym (marked_at (set marks n true) k) ∙ e)))
     ]
 
 pub marked_here : (marks : List Bool) (n : ℕ) → n < length marks → is_marked (set marks n true) n ≡ true
@@ -56,8 +55,8 @@ marked_here marks n within = marked_at (set marks n true) n ∙ get_or-set_same 
 pub marked_still : (marks : List Bool) (n k : ℕ) → n < length marks → is_marked marks k ≡ true → is_marked (set marks n true) k ≡ true
 marked_still marks n k within e =
     elim (cases_eq k n) [
-      inl same ↦ ap (is_marked (set marks n true)) same ∙ marked_here marks n within
-    | inr other ↦ marked_at (set marks n true) k ∙ (get_or-set_other marks n k true false other ∙ (sym (marked_at marks k) ∙ e))
+      | inl same ↦ ap (is_marked (set marks n true)) same ∙ marked_here marks n within
+      | inr other ↦ marked_at (set marks n true) k ∙ (get_or-set_other marks n k true false other ∙ (sym (marked_at marks k) ∙ e))
     ]
 
 counted_set : (marks : List Bool) (n : ℕ) → n < length marks → is_marked marks n ≡ false → count_by (λ b. b) (set marks n true) ≡ count_by (λ b. b) marks + 1
@@ -126,13 +125,13 @@ adds_new s t n within fresh marks members is =
       is_set = record {
         counted = ap (count_by (λ b. b)) marks ∙ (counted_set old n within fresh ∙ (ap (λ c. c + 1) is.counted ∙ (sym (length_push s.members.items n) ∙ ap length (sym members))));
         listed = λ k h. elim (marked_set old n k within (ap (λ m. is_marked m k) (sym marks) ∙ h)) [
-            inl same ↦ (length s.members.items, ap (λ m. slice_get m (length s.members.items)) members ∙ (slice_get-last s.members.items n ∙ ap Some (sym same)))
+          | inl same ↦ (length s.members.items, ap (λ m. slice_get m (length s.members.items)) members ∙ (slice_get-last s.members.items n ∙ ap Some (sym same)))
           | inr was ↦ let l = is.listed k was in (l.0, front l.0 k l.1)
-          ];
+        ];
         marked = λ j k h. elim (slice_get-push s.members.items n j k (ap (λ m. slice_get m j) (sym members) ∙ h)) [
-            inl was ↦ still k (is.marked j k was)
+          | inl was ↦ still k (is.marked j k was)
           | inr same ↦ ap (is_marked t.marks.items) same ∙ here
-          ];
+        ];
       };
       long = ap length marks ∙ length-set old n true;
       kept = still;

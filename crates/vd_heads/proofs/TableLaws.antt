@@ -59,7 +59,7 @@ pub spots_put : (name key : Bytes) (m r k n : BTreeMap (Bor Bytes) (List Spot)) 
 spots_put name key m r k n spots all spot e f g taken put was other =
     let put_r : Changes key r n (Some (spots ++ spot ∷ [])) = subst (λ x. Changes key r n (Some x)) g (subst (λ x. Changes key x n (Some all)) f put) in
     subst (λ x. unwrap_or (at_name n other) [] ≡ cond (bytes_eq x other) (unwrap_or (at_name m other) [] ++ spot ∷ []) (unwrap_or (at_name m other) [])) e
-      (spots_again key m r n spots spot taken put_r was other)
+    (spots_again key m r n spots spot taken put_r was other)
 
 -- ---- names that stand more than once
 
@@ -68,14 +68,16 @@ shared_same : (name : Bytes) (shared new : List Bytes) (before : List Spot) (spo
 shared_same name shared new before spot count c h true o is =
     let one : length before ≡ 1 = grind (arith, nat_tests) in
     (λ k. omega (arith, length-append before (spot ∷ [])), λ k. subst (λ x. Contains x name) (sym is) (Contains-push shared name))
-shared_same name shared new before spot count c h false o is =
-    (λ k. let m : 2 ≤ length before = h.0 (subst (λ x. Contains x name) is k) in omega (arith, length-append before (spot ∷ [])),
-     λ k. let m : 2 ≤ length before = (let l = length-append before (spot ∷ []) in grind (arith, nat_tests)) in subst (λ x. Contains x name) (sym is) (h.1 m))
+shared_same name shared new before spot count c h false o is = (
+  λ k. let m : 2 ≤ length before = h.0 (subst (λ x. Contains x name) is k) in omega (arith, length-append before (spot ∷ [])),
+  λ k. let m : 2 ≤ length before = (let l = length-append before (spot ∷ []) in grind (arith, nat_tests)) in subst (λ x. Contains x name) (sym is) (h.1 m),
+)
 
 shared_other : (name n : Bytes) (shared new : List Bytes) (t : Bool) → bytes_eq name n ≡ false → new ≡ cond t (shared ++ name ∷ []) shared → Contains new n ↔ Contains shared n
-shared_other name n shared new true e is =
-    (λ k. elim (Contains-push_cases shared name n (subst (λ x. Contains x n) is k)) [ inl s ↦ s | inr s ↦ absurd (let f = (bytes_eq-Decides name n).1 s in cc) ],
-     λ k. subst (λ x. Contains x n) (sym is) (Contains-append_left shared (name ∷ []) n k))
+shared_other name n shared new true e is = (
+  λ k. elim (Contains-push_cases shared name n (subst (λ x. Contains x n) is k)) [ inl s ↦ s | inr s ↦ absurd (let f = (bytes_eq-Decides name n).1 s in cc) ],
+  λ k. subst (λ x. Contains x n) (sym is) (Contains-append_left shared (name ∷ []) n k),
+)
 shared_other name n shared new false e is = (λ k. subst (λ x. Contains x n) is k, λ k. subst (λ x. Contains x n) (sym is) k)
 
 -- one declaration more
@@ -91,7 +93,7 @@ declarations_more places old new name spot h spots shared = record {
   go true other e =
       let same : name ≡ other = (bytes_eq-Decides name other).0 e in
       subst (λ x. Contains (shared_names new) x ↔ (2 ≤ length (places x ++ spot ∷ []))) same
-        (shared_same name (shared_names old) (shared_names new) (places name) spot (length (spots_in old name)) (ap length (h.spots name)) (h.shared name) (eqb (length (spots_in old name)) 1) refl shared)
+      (shared_same name (shared_names old) (shared_names new) (places name) spot (length (spots_in old name)) (ap length (h.spots name)) (h.shared name) (eqb (length (spots_in old name)) 1) refl shared)
   go false other e =
       let s = shared_other name other (shared_names old) (shared_names new) (eqb (length (spots_in old name)) 1) e shared in
       (λ k. (h.shared other).0 (s.0 k), λ k. s.1 ((h.shared other).1 k))
@@ -169,9 +171,9 @@ table_with space own is places t d name spot (Err e) h spots shared = tt
 table_with space own is places t d name spot (Ok x) h spots shared =
     let p : d ≡ in_space space (with_space space d t) = sym (placed space d t) in
     subst (λ o. (s : Space) → AreDeclarations (λ other. cond (same_space s o && bytes_eq name other) (places s other ++ spot ∷ []) (places s other)) (in_space s (with_space space d t))) (sym is)
-      (spaces_more space places t (with_space space d t) name spot h (stays space d t)
-        (subst (λ x. (other : Bytes) → spots_in x other ≡ cond (bytes_eq name other) (spots_in (in_space space t) other ++ spot ∷ []) (spots_in (in_space space t) other)) p spots)
-        (subst (λ x. shared_names x ≡ cond (eqb (length (spots_in (in_space space t) name)) 1) (shared_names (in_space space t) ++ name ∷ []) (shared_names (in_space space t))) p shared))
+    (spaces_more space places t (with_space space d t) name spot h (stays space d t)
+    (subst (λ x. (other : Bytes) → spots_in x other ≡ cond (bytes_eq name other) (spots_in (in_space space t) other ++ spot ∷ []) (spots_in (in_space space t) other)) p spots)
+    (subst (λ x. shared_names x ≡ cond (eqb (length (spots_in (in_space space t) name)) 1) (shared_names (in_space space t) ++ name ∷ []) (shared_names (in_space space t))) p shared))
 
 -- what a section declares, and nothing else
 pub declared_some : (content : Content) (space : Space) (name : Bytes) (places : Space → Bytes → List Spot) (spot : Spot) (t : Table) → declaration content ≡ Some (space, name)
@@ -193,6 +195,7 @@ spots_append s name k i [] gs = let e : i ≡ i + 0 = omega arith in ap (λ j. s
 spots_append s name k i (h ∷ hs) gs = go (declares s name h.content) (spots_append s name k (suc i) hs gs ∙ ap (λ j. spots_in_part s name k (suc i) hs ++ spots_in_part s name k j gs) e) where
   e : suc i + length hs ≡ i + suc (length hs)
   e = omega arith
+
   go : (b : Bool) → spots_in_part s name k (suc i) (hs ++ gs) ≡ spots_in_part s name k (suc i) hs ++ spots_in_part s name k (i + suc (length hs)) gs
       → cond b (record { part = k; section = i } ∷ spots_in_part s name k (suc i) (hs ++ gs)) (spots_in_part s name k (suc i) (hs ++ gs))
       ≡ cond b (record { part = k; section = i } ∷ spots_in_part s name k (suc i) hs) (spots_in_part s name k (suc i) hs) ++ spots_in_part s name k (i + suc (length hs)) gs
@@ -205,9 +208,9 @@ pub spots_next : (s : Space) (name : Bytes) (k n : ℕ) (hs : List HeadSection) 
 spots_next s name k n hs h below at =
     ap (spots_in_part s name k 0) (take_more hs n h below ∙ ap (λ x. take n hs ++ x ∷ []) (sym at)) ∙ (spots_append s name k 0 (take n hs) (h ∷ [])
     ∙ (ap (λ j. spots_in_part s name k 0 (take n hs) ++ spots_in_part s name k j (h ∷ [])) (zero-add (length (take n hs)) ∙ length-take-le n hs (omega arith)) ∙ go (declares s name h.content))) where
-  go : (b : Bool) → spots_in_part s name k 0 (take n hs) ++ cond b (record { part = k; section = n } ∷ []) [] ≡ cond b (spots_in_part s name k 0 (take n hs) ++ record { part = k; section = n } ∷ []) (spots_in_part s name k 0 (take n hs))
-  go true = refl
-  go false = append-nil (spots_in_part s name k 0 (take n hs))
+      go : (b : Bool) → spots_in_part s name k 0 (take n hs) ++ cond b (record { part = k; section = n } ∷ []) [] ≡ cond b (spots_in_part s name k 0 (take n hs) ++ record { part = k; section = n } ∷ []) (spots_in_part s name k 0 (take n hs))
+      go true = refl
+      go false = append-nil (spots_in_part s name k 0 (take n hs))
 
 -- what the sections up to one more declare
 pub sections_next : (places : Space → Bytes → List Spot) (k n : ℕ) (hs : List HeadSection) (h : HeadSection) (t : Table) → n < length hs → h ≡ get_or hs n h
@@ -277,10 +280,10 @@ unfolding named_so
 interface_put m n head number name key k e has put other =
     btree_map_updates_str key m n (Some number) put other ∙ (go (bytes_eq key other) refl (at_name m other) refl
     ∙ ap (λ b. option_or (at_name m other) (cond b (Some number) None)) (ap (λ x. bytes_eq x other) k ∙ sym (heads_by_name other head ∙ ap (named_so other) e))) where
-  go : (b : Bool) → bytes_eq key other ≡ b → (o : Option ℕ) → at_name m other ≡ o → cond b (Some number) o ≡ option_or o (cond b (Some number) None)
-  go true f None g = refl
-  go true f (Some x) g = absurd (let same = (bytes_eq-Decides key other).0 f in let h : is_some (at_name m other) ≡ false = subst (λ x. is_some (at_name m x) ≡ false) same has in cc)
-  go false f o g = sym (option_or-none o)
+      go : (b : Bool) → bytes_eq key other ≡ b → (o : Option ℕ) → at_name m other ≡ o → cond b (Some number) o ≡ option_or o (cond b (Some number) None)
+      go true f None g = refl
+      go true f (Some x) g = absurd (let same = (bytes_eq-Decides key other).0 f in let h : is_some (at_name m other) ≡ false = subst (λ x. is_some (at_name m x) ≡ false) same has in cc)
+      go false f o g = sym (option_or-none o)
 
 -- the parts up to one more
 pub part_next : (parts : List Part) (n : ℕ) (p : Part) (t : Table) → n < length parts → p ≡ get_or parts n p → IsTable (take n parts ++ p ∷ []) t → IsTable (take (n + 1) parts) t

@@ -113,12 +113,7 @@ fn add_next(
 }
 
 /// Adds what the member at a place exports or uses.
-fn follow(
-    parts: &[Part],
-    table: &Table<'_>,
-    at: usize,
-    set: &mut PartSet,
-) -> Result<(), AllocError>
+fn follow(parts: &[Part], table: &Table<'_>, at: usize, set: &mut PartSet) -> Result<(), AllocError>
     requires table { IsTable parts.now table.now }
     requires set { IsPartSet set.old }
     ensures { OnOk result (Adds (λ n. (k : ℕ) × (slice_get set.old.members.items at ≡ Some k) × Mentions parts.now k n) set.old set.new) }

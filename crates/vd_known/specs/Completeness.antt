@@ -41,13 +41,21 @@ module _ (lines : Bytes) where
     abbrev pub IsExported : Bytes → Type 0
     IsExported f = (n : ℕ) × (i : ℕ) × (c : Content) × Exports parts own n × IsDeclared parts space.Function f n i c
 
-    -- What asks for nothing of the unit: a function without a specification, a proof or a subsumption without its function, a subsumption of what is not exported with a specification of the unit's own.
-    pub data IsStray : Type 0 where
-      unspecified : {f : Bytes} → Stands section.Fn f → (HasOwn space.Function f → ⊥) → (IsExported f → ⊥) → IsStray
-      script_alone : {f : Bytes} → Stands section.Script f → (Stands section.Fn f → ⊥) → IsStray
-      sub_alone : {f : Bytes} → Stands section.Sub f → (Stands section.Fn f → ⊥) → IsStray
-      sub_of_other : {f : Bytes} → Stands section.Sub f → (HasOwn space.Function f → ⊥) → IsStray
-      sub_inside : {f : Bytes} → Stands section.Sub f → (IsExported f → ⊥) → IsStray
+    -- A function without a specification.
+    abbrev pub IsUnspecified : Bytes → Type 0
+    IsUnspecified f = Stands section.Fn f × (HasOwn space.Function f → ⊥) × (IsExported f → ⊥)
+
+    -- A proof without its function.
+    abbrev pub IsAlone : Bytes → Type 0
+    IsAlone f = Stands section.Script f × (Stands section.Fn f → ⊥)
+
+    -- A subsumption without its function, or of what is not exported with a specification of the unit's own.
+    abbrev pub IsUnasked : Bytes → Type 0
+    IsUnasked f = Stands section.Sub f × ((Stands section.Fn f × HasOwn space.Function f × IsExported f) → ⊥)
+
+    -- What asks for nothing of the unit.
+    abbrev pub IsStray : Type 0
+    IsStray = (f : Bytes) × (IsUnspecified f ⊎ (IsAlone f ⊎ IsUnasked f))
 
     -- The interface of number n asks for what the unit lacks: the definition of an abstract predicate, or a function.
     pub data Asks (n : ℕ) : Type 0 where
@@ -55,21 +63,24 @@ module _ (lines : Bytes) where
           → (HasOwn space.Predicate name → ⊥) → Asks n
       function : {f : Bytes} {i : ℕ} {c : Content} → IsDeclared parts space.Function f n i c → (Stands section.Fn f → ⊥) → Asks n
 
-    -- The unit's section of that number specifies this function.
-    pub record Specifies (h : HeadSection) (f : Spec) : Type 0 where
+    -- A name in a list that is exported is that of an interface that asks for what the unit lacks, and this is its place.
+    pub record IsMissing (names : List Mention) (place : ℕ) : Type 0 where
+      pub mention : Mention
       pub number : ℕ
-      pub twice : Bool
-      pub stands : IsSection parts own number h
-      pub says : h.content ≡ content.Spec f twice
+      pub listed : Contains names mention
+      pub is : interface_at parts mention.name ≡ Some number
+      pub asks : Asks number
+      pub place_is : place ≡ mention.place
 
-    -- The condition fails of a unit at a place: 0, the name of an exported interface, or the header line of a specification that lacks its function, or its subsumption where the function is exported.
-    pub data Lacks (place : ℕ) : Type 0 where
-      stray : IsStray → place ≡ 0 → Lacks place
-      asked : (n : ℕ) (number : ℕ) (h : HeadSection) (names : List Mention) (m : Mention) → IsSection parts own number h → h.content ≡ content.Exports names → Contains names m
-          → interface_at parts m.name ≡ Some n → Asks n → place ≡ m.place → Lacks place
-      unserved : (h : HeadSection) (f : Spec) → Specifies h f → (Stands section.Fn f.name → ⊥) → place ≡ h.place → Lacks place
-      unsubsumed : (h : HeadSection) (f : Spec) → Specifies h f → IsExported f.name → (Stands section.Sub f.name → ⊥) → place ≡ h.place → Lacks place
+    -- A specification has its function, and its subsumption where an interface exports it.
+    abbrev pub IsServed : Bytes → Type 0
+    IsServed f = Stands section.Fn f × (IsExported f → Stands section.Sub f)
 
-    -- The part is that of a unit that lacks something.
+    -- A section lacks something at a place: the name of an interface that it exports, or the header line of a specification that is not served.
+    abbrev pub LacksIn : HeadSection → ℕ → Type 0
+    LacksIn h place = ((names : List Mention) × (h.content ≡ content.Exports names) × IsMissing names place)
+        ⊎ ((f : Spec) × (twice : Bool) × (h.content ≡ content.Spec f twice) × (IsServed f.name → ⊥) × (place ≡ h.place))
+
+    -- The part is that of a unit that lacks something, at 0 or in a section.
     abbrev pub FailsComplete : ℕ → Type 0
-    FailsComplete place = IsUnit parts own × Lacks place
+    FailsComplete place = IsUnit parts own × ((IsStray × (place ≡ 0)) ⊎ ((i : ℕ) × (h : HeadSection) × IsSection parts own i h × LacksIn h place))

@@ -1,5 +1,5 @@
 -- Condition 3: a name is declared twice in the closure.
-use Rattle.std.specs.Prelude.{◌≡◌, ◌⊎◌, ℕ, Bool, true, false, ◌||◌, List, [], ◌∷◌, slice_get, if◌then◌else◌}
+use Rattle.std.specs.Prelude.{◌≡◌, ◌⊎◌, ℕ, Bool, true, false, ◌||◌, ◌&&◌, List, [], ◌∷◌, slice_get, if◌then◌else◌}
 use Rattle.std.specs.List.{list_any}
 use Rattle.std.specs.Str.{bytes_eq}
 use Rattle.vd_base.specs.declared.ctype.Field.{Field}
@@ -8,17 +8,28 @@ use Rattle.vd_heads.specs.declared.content.Content.TheVariants as content
 use Rattle.vd_heads.specs.declared.content.HeadSection.{HeadSection}
 use Rattle.vd_heads.specs.declared.content.Part.{Part}
 use Rattle.vd_heads.specs.declared.table.Space.{Space}
-use Rattle.vd_heads.specs.Declaration.{Bytes, IsSection, declares}
+use Rattle.vd_heads.specs.Declaration.{Bytes, declares}
 use Rattle.vd_heads.specs.Closure.{Exports, Sees}
 use Rattle.vd_heads.specs.Declaration.{sections_in}
+use Rattle.vd_heads.specs.Least.{IsPlaceOf}
 
 -- ---- one name in two sections
 
+abbrev pub is_pred : Content → Bool
+is_pred (content.Pred p twice) = true
+is_pred _ = false
+
+abbrev pub is_abstract : Content → Bool
+is_abstract (content.Abstract name sorts twice) = true
+is_abstract _ = false
+
+abbrev pub is_spec : Content → Bool
+is_spec (content.Spec f twice) = true
+is_spec _ = false
+
 -- what one section says defines what another declares: a predicate that is abstract there, or a function's specification
 abbrev pub defines : Content → Content → Bool
-defines (content.Pred p twice) (content.Abstract name sorts again) = true
-defines (content.Spec f twice) (content.Spec g again) = true
-defines _ _ = false
+defines c d = (is_pred c && is_abstract d) || (is_spec c && is_spec d)
 
 module _ (parts : List Part) (own : ℕ) where
   -- The part is that of a unit, which defines in a section of its own what an interface declares that it exports.
@@ -64,8 +75,10 @@ repeats (content.Pred p twice) = twice
 repeats (content.Spec f twice) = twice || have_twins f.params
 repeats _ = false
 
--- The condition fails at a place: for a name in two sections that of the later one in the own head part, or 0 where none stands there; for a name within a section that section's.
+-- The name stands in two sections, and this is the place of the later one in the own head part, or 0 where none stands there.
+abbrev pub IsTwofoldAt : List Part → ℕ → Space → Bytes → ℕ → Type 0
+IsTwofoldAt parts own s name place = IsTwofold parts own s name × (place ≡ last_place s name 0 (own_sections parts own))
+
+-- The condition fails at a place: for a name in two sections, or for a name within a section at that section's.
 abbrev pub FailsTwice : List Part → ℕ → ℕ → Type 0
-FailsTwice parts own place =
-    ((s : Space) × (name : Bytes) × IsTwofold parts own s name × (place ≡ last_place s name 0 (own_sections parts own)))
-    ⊎ ((i : ℕ) × (h : HeadSection) × IsSection parts own i h × (repeats h.content ≡ true) × (place ≡ h.place))
+FailsTwice parts own place = ((s : Space) × (name : Bytes) × IsTwofoldAt parts own s name place) ⊎ IsPlaceOf parts own (λ c. repeats c ≡ true) place

@@ -1,28 +1,35 @@
 //! What a unit lacks.
 
-ghost use Rattle.std.specs.Prelude.{◌≡◌, ◌↔◌, IfOk, IsTrue};
-ghost use Rattle.vd_known.specs.Completeness as complete;
+ghost use Rattle.std.specs.Prelude.{◌≡◌, ◌↔◌, ◌⊎◌, ℕ, Some, MatchOption, IfOk, OnOk, IsTrue};
+ghost use Rattle.vd_outline.specs.Outline.{header_line};
+ghost use Rattle.vd_heads.specs.Closure.{interface_at};
 ghost use Rattle.vd_heads.specs.Declaration.{Bytes};
+ghost use Rattle.vd_heads.specs.declared.table.Space.TheVariants as space;
 ghost use Rattle.vd_heads.specs.Least.{IsLeastOrNone};
-ghost use Rattle.vd_known.specs.HeaderNames.{AreBodies};
 ghost use Rattle.vd_heads.specs.Views.{IsView};
+ghost use Rattle.vd_known.specs.Completeness as complete;
+ghost use Rattle.vd_known.specs.HeaderNames.{AreBodies, IsIn};
+ghost use Rattle.vd_known.specs.Names.{IsSet};
 
+use crate::least::least_of;
+use crate::names::Names;
 use std::alloc::{AllocError, Global};
-use std::collections::BTreeSet;
 use vd_base::Text;
+use vd_heads::{Content, HeadSection, Mention, Space, View, least, section_word};
 use vd_outline::{SectionKind, cut_at};
-use vd_heads::{Content, Mention, Space, View, least, section_word};
 
 /// The names of a unit's functions, proofs and subsumptions, by the header lines of their sections.
 #[derive(Drop)]
 pub struct Bodies<'a> {
-    functions: BTreeSet<&'a [u8]>,
-    scripts: BTreeSet<&'a [u8]>,
-    subs: BTreeSet<&'a [u8]>,
+    functions: Names<'a>,
+    scripts: Names<'a>,
+    subs: Names<'a>,
 }
 
 /// The name in a header line of this kind.
-fn name_behind<'a>(kind: SectionKind, line: &'a [u8]) -> Option<&'a [u8]> {
+fn name_behind<'a>(kind: SectionKind, line: &'a [u8]) -> Option<&'a [u8]>
+    ensures { MatchOption result ((name : Bytes) → line.now ≡ header_line kind (Some name) → ⊥) (λ name. line.now ≡ header_line kind (Some name.now)) }
+{
     match cut_at(line, b' ') {
         Some((word, name)) => {
             if word == section_word(kind) {
@@ -35,51 +42,51 @@ fn name_behind<'a>(kind: SectionKind, line: &'a [u8]) -> Option<&'a [u8]> {
     }
 }
 
-impl<'a> Bodies<'a> {
-    fn add(&mut self, line: &'a [u8]) -> Result<(), AllocError> {
-        if let Some(name) = name_behind(SectionKind::Fn, line) {
-            self.functions.insert(name)?;
-        }
-        if let Some(name) = name_behind(SectionKind::Script, line) {
-            self.scripts.insert(name)?;
-        }
-        if let Some(name) = name_behind(SectionKind::Sub, line) {
-            self.subs.insert(name)?;
-        }
-        Ok(())
+/// Puts the name in a header line of this kind behind others, where there is one.
+fn add_named<'a>(
+    names: &mut Names<'a>,
+    kind: SectionKind,
+    line: &'a [u8],
+) -> Result<(), AllocError>
+    requires { IsSet names.old }
+    ensures set { OnOk result (IsSet names.new) }
+    ensures names { OnOk result ((f : Bytes) → IsIn names.new f ↔ (IsIn names.old f ⊎ (line.now ≡ header_line kind (Some f)))) }
+{
+    match name_behind(kind, line) {
+        Some(name) => names.add(name),
+        None => Ok(()),
     }
+}
 
+impl<'a> Bodies<'a> {
     /// Those of a text of header lines.
     pub fn of(alloc: Global, lines: &'a Text) -> Result<Bodies<'a>, AllocError>
         ensures { IfOk result (AreBodies lines.now) }
     {
-        let mut bodies = Bodies {
-            functions: BTreeSet::new(alloc),
-            scripts: BTreeSet::new(alloc),
-            subs: BTreeSet::new(alloc),
-        };
+        let mut functions = Names::new(alloc);
+        let mut scripts = Names::new(alloc);
+        let mut subs = Names::new(alloc);
         let mut rest = lines.as_bytes();
-        while let Some((line, after)) = cut_at(rest, b'\n') {
-            bodies.add(line)?;
+        'lines: while let Some((line, after)) = cut_at(rest, b'\n') {
+            add_named(&mut functions, SectionKind::Fn, line)?;
+            add_named(&mut scripts, SectionKind::Script, line)?;
+            add_named(&mut subs, SectionKind::Sub, line)?;
             rest = after;
         }
-        Ok(bodies)
+        Ok(Bodies {
+            functions,
+            scripts,
+            subs,
+        })
     }
 }
 
-/// Whether the part itself has a specification of the function.
-fn has_own_spec(view: &View<'_>, name: &[u8]) -> bool {
-    for spot in view.spots(Space::Function, name) {
-        if spot.part == view.own {
-            return true;
-        }
-    }
-    false
-}
-
-/// Whether the part itself declares the predicate.
-fn has_own_pred(view: &View<'_>, name: &[u8]) -> bool {
-    for spot in view.spots(Space::Predicate, name) {
+/// Whether the part itself declares the name.
+fn has_own(view: &View<'_>, space: Space, name: &[u8]) -> bool
+    requires { IsView view.now }
+    ensures { IsTrue result ↔ complete.HasOwn view.now.parts.now view.now.own space name.now }
+{
+    for spot in view.spots(space, name) {
         if spot.part == view.own {
             return true;
         }
@@ -88,7 +95,10 @@ fn has_own_pred(view: &View<'_>, name: &[u8]) -> bool {
 }
 
 /// Whether an exported interface specifies the function.
-fn has_exported_spec(view: &View<'_>, name: &[u8]) -> bool {
+fn has_exported_spec(view: &View<'_>, name: &[u8]) -> bool
+    requires { IsView view.now }
+    ensures { IsTrue result ↔ complete.IsExported view.now.parts.now view.now.own name.now }
+{
     for spot in view.spots(Space::Function, name) {
         if view.exports(spot.part) {
             return true;
@@ -97,27 +107,43 @@ fn has_exported_spec(view: &View<'_>, name: &[u8]) -> bool {
     false
 }
 
-/// Whether a function without a specification, a proof without its function, or a subsumption that nothing asks for
-/// stands in the unit.
-fn has_stray(view: &View<'_>, bodies: &Bodies<'_>) -> bool
+/// Whether a function without a specification stands in the unit.
+fn has_unspecified(view: &View<'_>, bodies: &Bodies<'_>) -> bool
     requires { IsView view.now }
-    ensures { (lines : Bytes) → AreBodies lines bodies.now → IsTrue result ↔ complete.IsStray lines view.now.parts.now view.now.own }
+    ensures { (lines : Bytes) → AreBodies lines bodies.now → IsTrue result ↔ ((f : Bytes) × complete.IsUnspecified lines view.now.parts.now view.now.own f) }
 {
-    for name in bodies.functions.iter() {
-        if !has_own_spec(view, name) && !has_exported_spec(view, name) {
+    for name in bodies.functions.as_slice() {
+        if !has_own(view, Space::Function, name) && !has_exported_spec(view, name) {
             return true;
         }
     }
-    for name in bodies.scripts.iter() {
-        if !bodies.functions.contains(*name) {
+    false
+}
+
+/// Whether a proof without its function stands in the unit.
+fn has_alone(view: &View<'_>, bodies: &Bodies<'_>) -> bool
+    requires names { IsSet bodies.now.functions }
+    ensures { (lines : Bytes) → AreBodies lines bodies.now → IsTrue result ↔ ((f : Bytes) × complete.IsAlone lines view.now.parts.now view.now.own f) }
+{
+    for name in bodies.scripts.as_slice() {
+        if !bodies.functions.has(name) {
             return true;
         }
     }
-    for name in bodies.subs.iter() {
-        if !bodies.functions.contains(*name)
-            || !has_own_spec(view, name)
-            || !has_exported_spec(view, name)
-        {
+    false
+}
+
+/// Whether a subsumption that nothing asks for stands in the unit.
+fn has_unasked(view: &View<'_>, bodies: &Bodies<'_>) -> bool
+    requires view { IsView view.now }
+    requires names { IsSet bodies.now.functions }
+    ensures { (lines : Bytes) → AreBodies lines bodies.now → IsTrue result ↔ ((f : Bytes) × complete.IsUnasked lines view.now.parts.now view.now.own f) }
+{
+    for name in bodies.subs.as_slice() {
+        let asked = bodies.functions.has(name)
+            && has_own(view, Space::Function, name)
+            && has_exported_spec(view, name);
+        if !asked {
             return true;
         }
     }
@@ -125,7 +151,11 @@ fn has_stray(view: &View<'_>, bodies: &Bodies<'_>) -> bool
 }
 
 /// Whether the unit defines all that an interface of a name declares, where there is one.
-fn defines_all(view: &View<'_>, bodies: &Bodies<'_>, mention: &Mention) -> bool {
+fn defines_all(view: &View<'_>, bodies: &Bodies<'_>, mention: &Mention) -> bool
+    requires view { IsView view.now }
+    requires names { IsSet bodies.now.functions }
+    ensures { (lines : Bytes) → AreBodies lines bodies.now → IsTrue result ↔ ((n : ℕ) → interface_at view.now.parts.now mention.now.name ≡ Some n → complete.Asks lines view.now.parts.now view.now.own n → ⊥) }
+{
     let Some(number) = view.table.interface(&mention.name) else {
         return true;
     };
@@ -134,8 +164,8 @@ fn defines_all(view: &View<'_>, bodies: &Bodies<'_>, mention: &Mention) -> bool 
     };
     for section in part.sections.as_slice() {
         let defined = match &section.content {
-            Content::Abstract(name, _, _) => has_own_pred(view, name.as_bytes()),
-            Content::Spec(spec, _) => bodies.functions.contains(spec.name.as_bytes()),
+            Content::Abstract(name, _, _) => has_own(view, Space::Predicate, name.as_bytes()),
+            Content::Spec(spec, _) => bodies.functions.has(spec.name.as_bytes()),
             _ => true,
         };
         if !defined {
@@ -146,7 +176,11 @@ fn defines_all(view: &View<'_>, bodies: &Bodies<'_>, mention: &Mention) -> bool 
 }
 
 /// The smallest place of an exported interface, of those mentioned, that asks for what is missing.
-fn first_missing(view: &View<'_>, bodies: &Bodies<'_>, mentions: &[Mention]) -> Option<u32> {
+fn first_missing(view: &View<'_>, bodies: &Bodies<'_>, mentions: &[Mention]) -> Option<u32>
+    requires view { IsView view.now }
+    requires names { IsSet bodies.now.functions }
+    ensures { (lines : Bytes) → AreBodies lines bodies.now → IsLeastOrNone (complete.IsMissing lines view.now.parts.now view.now.own mentions.now) result }
+{
     let mut first = None;
     for mention in mentions {
         if !defines_all(view, bodies, mention) {
@@ -157,39 +191,51 @@ fn first_missing(view: &View<'_>, bodies: &Bodies<'_>, mentions: &[Mention]) -> 
 }
 
 /// Whether a specification of the unit has its function, and its subsumption where an interface exports it.
-fn is_served(view: &View<'_>, bodies: &Bodies<'_>, name: &[u8]) -> bool {
-    if !bodies.functions.contains(name) {
-        return false;
+fn is_served(view: &View<'_>, bodies: &Bodies<'_>, name: &[u8]) -> bool
+    requires view { IsView view.now }
+    requires functions { IsSet bodies.now.functions }
+    requires subs { IsSet bodies.now.subs }
+    ensures { (lines : Bytes) → AreBodies lines bodies.now → IsTrue result ↔ complete.IsServed lines view.now.parts.now view.now.own name.now }
+{
+    bodies.functions.has(name) && (bodies.subs.has(name) || !has_exported_spec(view, name))
+}
+
+/// The smallest place in a section at which a unit lacks what is asked of it.
+fn section_lack(view: &View<'_>, bodies: &Bodies<'_>, section: &HeadSection) -> Option<u32>
+    requires view { IsView view.now }
+    requires functions { IsSet bodies.now.functions }
+    requires subs { IsSet bodies.now.subs }
+    ensures { (lines : Bytes) → AreBodies lines bodies.now → IsLeastOrNone (complete.LacksIn lines view.now.parts.now view.now.own section.now) result }
+{
+    match &section.content {
+        Content::Exports(mentions) => first_missing(view, bodies, mentions.as_slice()),
+        Content::Spec(spec, _) => {
+            if is_served(view, bodies, spec.name.as_bytes()) {
+                None
+            } else {
+                Some(section.place)
+            }
+        }
+        Content::Uses(_) | Content::Struct(_, _) | Content::Global(_, _) => None,
+        Content::Abstract(_, _, _) | Content::Pred(_, _) | Content::Unread(_) => None,
     }
-    bodies.subs.contains(name) || !has_exported_spec(view, name)
 }
 
 /// The smallest place at which a unit lacks what is asked of it.
 pub fn first_lack(view: &View<'_>, bodies: &Bodies<'_>) -> Option<u32>
-    requires { IsView view.now }
+    requires view { IsView view.now }
+    requires bodies { (lines : Bytes) × AreBodies lines bodies.now }
     ensures { (lines : Bytes) → AreBodies lines bodies.now → IsLeastOrNone (complete.FailsComplete lines view.now.parts.now view.now.own) result }
 {
     if !view.is_unit() {
         return None;
     }
-    if has_stray(view, bodies) {
+    if has_unspecified(view, bodies) || has_alone(view, bodies) || has_unasked(view, bodies) {
         return Some(0);
     }
     let mut first = None;
     for section in view.sections() {
-        match &section.content {
-            Content::Exports(mentions) => {
-                if let Some(place) = first_missing(view, bodies, mentions.as_slice()) {
-                    first = least(first, place);
-                }
-            }
-            Content::Spec(spec, _) => {
-                if !is_served(view, bodies, spec.name.as_bytes()) {
-                    first = least(first, section.place);
-                }
-            }
-            _ => {}
-        }
+        first = least_of(first, section_lack(view, bodies, section));
     }
     first
 }

@@ -3,6 +3,8 @@
 
 mod completeness;
 mod known;
+mod least;
+mod names;
 mod twice;
 
 pub use completeness::{Bodies, first_lack};

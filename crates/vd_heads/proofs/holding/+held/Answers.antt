@@ -11,9 +11,9 @@ returns-in-Array t c = c.held.ensures ∙ (ap held c.get.ensures ∙ sym (ap hel
 
 pub returns-in-Void : goal.returns-in-Void
 returns-in-Void t c = sym (elim c.in-Void.is [
-      inl e ↦ ap held e ∙ held-Void
-    | inr (inl e) ↦ ap held e ∙ held-Int
-    | inr (inr (inl e)) ↦ ap held e ∙ held-Unsigned
-    | inr (inr (inr (inl e))) ↦ ap held e ∙ held-Lock
-    | inr (inr (inr (inr e))) ↦ ap held e.1 ∙ held-Pointer e.0
-    ])
+  | inl e ↦ ap held e ∙ held-Void
+  | inr (inl e) ↦ ap held e ∙ held-Int
+  | inr (inr (inl e)) ↦ ap held e ∙ held-Unsigned
+  | inr (inr (inr (inl e))) ↦ ap held e ∙ held-Lock
+  | inr (inr (inr (inr e))) ↦ ap held e.1 ∙ held-Pointer e.0
+])

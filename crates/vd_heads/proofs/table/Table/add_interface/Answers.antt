@@ -1,4 +1,4 @@
-use Rattle.std.proofs.Common.{◌≡◌, sym, ◌∙◌, ap, rules}
+use Rattle.std.proofs.Common.{sym, ◌∙◌, ap, rules}
 use Rattle.std.specs.Option.{option_copied}
 use Rattle.vd_heads.proofs.TableLaws.{interface_put}
 use Rattle.vd_heads.proofs.table.Table.add_interface.Goals as goal

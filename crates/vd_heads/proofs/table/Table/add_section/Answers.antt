@@ -1,5 +1,4 @@
-use Rattle.std.proofs.Common.{◌≡◌, sym, ◌∙◌, ap, option_map}
-use Rattle.vd_heads.specs.Declaration.{declaration}
+use Rattle.std.proofs.Common.{sym, ◌∙◌, ap, option_map}
 use Rattle.vd_heads.proofs.TableLaws.{declared_some, declared_none, on_ok_more}
 use Rattle.vd_heads.proofs.table.Table.add_section.Goals as goal
 

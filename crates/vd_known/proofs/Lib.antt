@@ -1,0 +1,9 @@
+mod NameLaws
+mod Needs
+mod LeastLaws
+mod Unknown
+mod TwinLaws
+mod ClashLaws
+mod PlaceLaws
+mod LineLaws
+mod OwnLaws
