@@ -6,3 +6,4 @@ pub mod Counting
 pub mod Completing
 pub mod Pairs
 pub mod Settling
+pub mod Seeing

@@ -196,3 +196,20 @@ module _ (H : List CType → Type 0) (one : (ts us : List CType) → H ts → H 
     λ t. over ((Decides-ltb most_cells c.count).0 (sym e ∙ t)),
     λ n. elim (cases_lt most_cells c.count) [ inl lt ↦ e ∙ (Decides-ltb most_cells c.count).1 lt | inr le ↦ absurd (not_over le n) ]
   )
+
+-- ---- one struct more in a pass
+
+module _ (view : View) (old mid new : Sizes) (waiting left after : List StructSeen) (i : ℕ) (s : StructSeen) (is_done : Bool) (lt : i < length waiting) (is : s ≡ get_or waiting i s)
+    (p : Passes view old mid (take i waiting) left) (step : IsCountedOrWaits view mid new s is_done) where
+  next : take (i + 1) waiting ≡ take i waiting ++ s ∷ []
+  next = take_more waiting i s lt ∙ ap (λ y. take i waiting ++ y ∷ []) (sym is)
+
+  pub goes_left : is_done ≡ false → IsMeant view s → after ≡ left ++ s ∷ [] → Passes view old new (take (i + 1) waiting) after
+  goes_left e meant put =
+      subst (λ w. Passes view old new w after) (sym next) (subst (λ l. Passes view old new (take i waiting ++ s ∷ []) l) (sym put)
+      (passes_left view old mid new (take i waiting) left s p (subst (IsCountedOrWaits view mid new s) e step) meant))
+
+  pub goes_by : is_done ≡ true → after ≡ left → Passes view old new (take (i + 1) waiting) after
+  goes_by e put =
+      subst (λ w. Passes view old new w after) (sym next) (subst (λ l. Passes view old new (take i waiting ++ s ∷ []) l) (sym put)
+      (passes_counted view old mid new (take i waiting) left s p (subst (IsCountedOrWaits view mid new s) e step)))
