@@ -1,9 +1,9 @@
 -- The structs that a part sees, section after section and part after part.
 use Rattle.std.proofs.Common.{◌≡◌, ℕ, zero, suc, ◌+◌, ◌<◌, ◌≤◌, Bool, true, false, List, [], ◌∷◌, ◌++◌, length, get_or, take, Option, Some, None, refl, sym, ap, ◌∙◌, subst, inl, inr, ◌⊎◌, arith}
-use Rattle.std.specs.Prelude.{◌↔◌, slice_get}
+use Rattle.std.specs.Prelude.{◌↔◌, slice_get, MatchOption, OnOk, Result, Ok, Err}
 use Rattle.std.specs.List.{All, Contains}
 use Rattle.std.specs.Option.{option_and_then}
-use Rattle.std.proofs.lemmas.List.{take_more, take_all}
+use Rattle.std.proofs.lemmas.List.{get_or_append_left, get_or_at, length-append, take_more, take_all}
 use Rattle.std.proofs.lemmas.List.Elements.{All-push, Contains-append_left, Contains-push, Contains-push_cases}
 use Rattle.std.proofs.lemmas.Bool.{cases_lt}
 use Rattle.std.proofs.lemmas.Option.{same_Some, none-some}
@@ -18,7 +18,8 @@ use Rattle.vd_heads.specs.declared.view.View.{View}
 use Rattle.vd_heads.specs.Closure.{Means, Reaches}
 use Rattle.vd_heads.specs.Closure as closure
 use Rattle.vd_heads.specs.Declaration.{Bytes, IsSection, declares, section_at}
-use Rattle.vd_sized.specs.Seen.{AreAdded, AreAllSeen, AreSeenBefore, IsMeant, IsNoStruct, IsNotMeant, IsStruct, MeansStruct, Names}
+use Rattle.vd_sized.specs.Seen.{AreAdded, AreAllSeen, AreOpen, AreSeenBefore, HasOpened, IsMeant, IsNoStruct, IsNotMeant, IsStruct, MeansStruct, Names}
+use Rattle.vd_sized.specs.declared.order.Open.{Open}
 use Rattle.vd_sized.specs.declared.order.StructSeen.{StructSeen}
 
 no : false ≡ true → ⊥
@@ -27,7 +28,7 @@ no e = cc
 -- ---- places in lists
 
 pub slice_get_at : {X : Type 0} (xs : List X) (i : ℕ) (x : X) → slice_get xs i ≡ Some x → (i < length xs) × (get_or xs i x ≡ x)
-slice_get_at [] i x e = absurd (none-some x (sym e))
+slice_get_at [] i x e = absurd (none-some x e)
 slice_get_at (y ∷ ys) zero x e = (omega arith, same_Some y x e)
 slice_get_at (y ∷ ys) (suc i) x e = let h = slice_get_at ys i x e in ((let lt = h.0 in omega (arith, lt)), h.1)
 
@@ -63,6 +64,39 @@ pub is_meant : (view : View) (name : Bytes) (c : Content) (s : StructSeen) → M
 is_meant view name c s m e =
     let named : s.name.now ≡ name = (bytes_eq-Decides s.name.now name).0 (subst (λ x. declares space.Struct name x ≡ true) e (meant_declares view name c m)) in
     (named, subst (λ n. Means view.parts.now view.own space.Struct n (content.Struct s.name.now s.fields.now)) (sym named) (subst (Means view.parts.now view.own space.Struct name) e m))
+
+pub meant_by : (view : View) (name : Bytes) (c : Content) → Means view.parts.now view.own space.Struct name c → (o : Option StructSeen) → MatchOption o (IsNoStruct c) (IsStruct c)
+    → MatchOption o (IsNotMeant view name) (λ s. (s.name.now ≡ name) × IsMeant view s)
+meant_by view name c m None h = means_no_other view name c m h
+meant_by view name c m (Some s) h = is_meant view name c s m h
+
+-- ---- structs whose fields are visited
+
+pub on_ok : {T E A B : Type 0} (r : Result T E) → (A → B) → OnOk r A → OnOk r B
+on_ok (Ok x) f a = f a
+on_ok (Err e) f a = a
+
+pub always : {T E A : Type 0} (r : Result T E) → A → OnOk r A
+always (Ok x) a = a
+always (Err e) a = tt
+
+pub one_open : (view : View) (old new : List Open) (o : Open) → AreOpen view old → IsMeant view o.known → new ≡ old ++ o ∷ [] → AreOpen view new
+one_open view old new o open_old meant e = subst (AreOpen view) (sym e) (All-push (λ x. IsMeant view x.known) old o open_old meant)
+
+pub opened : (view : View) (s : StructSeen) (old new : List Open) → AreOpen view old → IsMeant view s → HasOpened s old new → AreOpen view new
+opened view s old new open_old meant (inl e) = subst (AreOpen view) (sym e) open_old
+opened view s old new open_old meant (inr e) = one_open view old new (record { known = s; next = 0 }) open_old meant e
+
+pub none_open : (view : View) → AreOpen view []
+none_open view k d lt = absurd (omega arith)
+
+pub last_open : (view : View) (rest : List Open) (o : Open) (all : List Open) → all ≡ rest ++ o ∷ [] → AreOpen view all → AreOpen view rest × IsMeant view o.known
+last_open view rest o all e h = (
+  λ k d lt. subst (λ x. IsMeant view x.known) (get_or_append_left rest (o ∷ []) d k lt) (whole k d (omega (arith, lt, length-append rest (o ∷ [])))),
+  subst (λ x. IsMeant view x.known) (get_or_at rest o [] o (length rest) refl) (whole (length rest) o (omega (arith, length-append rest (o ∷ []))))
+) where
+  whole : AreOpen view (rest ++ o ∷ [])
+  whole = subst (AreOpen view) e h
 
 -- ---- one section
 
@@ -153,7 +187,7 @@ module _ (view : View) (n : ℕ) (p : Part) (old : List StructSeen) (lt : n < le
     equal k a b = omega arith
 
 part_within : (parts : List Part) (k i : ℕ) (h : HeadSection) → IsSection parts k i h → k < length parts
-part_within [] k i h e = absurd (none-some h (sym e))
+part_within [] k i h e = absurd (none-some h e)
 part_within (p ∷ ps) zero i h e = omega arith
 part_within (p ∷ ps) (suc k) i h e = let lt = part_within ps k i h e in omega arith
 

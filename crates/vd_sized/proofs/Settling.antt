@@ -2,7 +2,11 @@
 use Rattle.std.proofs.Common.{◌≡◌, ℕ, ◌+◌, ◌<◌, ◌≤◌, Bool, true, false, cond, List, [], ◌∷◌, ◌++◌, length, get_or, take, Option, Some, None, refl, sym, ap, ◌∙◌, subst, inl, inr, ◌⊎◌, arith, min, ltb, IsTrue, zero, suc}
 use Rattle.std.specs.Prelude.{◌↔◌, MatchOption, MatchBool}
 use Rattle.std.specs.List.{All, Contains, repeat}
+use Rattle.std.specs.BTreeMap.{is_at}
+use Rattle.std.specs.Cmp.Lexicographic.{slice_cmp}
+use Rattle.std.specs.Map.{lookup}
 use Rattle.std.specs.Option.{is_some}
+use Rattle.std.specs.Ordering.{nat_cmp}
 use Rattle.std.specs.Str.{bytes_eq}
 use Rattle.std.proofs.lemmas.List.{length-append, take_more, take_all}
 use Rattle.std.proofs.lemmas.List.Elements.{All-push, Contains-append_left, Contains-push, Contains-push_cases}
@@ -68,6 +72,18 @@ module _ (view : View) (sizes : Sizes) where
   some_waits [] i f lt is w = absurd (omega arith)
   some_waits (g ∷ fields) zero f lt is w = sized.here (subst (λ x. Waits view sizes x.typ) is w)
   some_waits (g ∷ fields) (suc i) f lt is w = sized.there (some_waits fields i f (omega arith) is w)
+
+-- ---- what waits has no cells, so fields of which one waits have none
+
+pub no_together : (view : View) (sizes : Sizes) → ((t : CType) (ts : List CType) → HasCells view.parts.now view.own t ts → Waits view sizes t → ⊥) → {fs : List Field} {ts : List CType}
+    → HaveCells view.parts.now view.own fs ts → SomeWaits view sizes fs → ⊥
+no_together view sizes none cells.no_field w = elim w [ ]
+no_together view sizes none (cells.field_then {f} us vs a b e) (sized.here w) = none f.typ us a w
+no_together view sizes none (cells.field_then us vs a b e) (sized.there w) = no_together view sizes none b w
+
+-- nothing is counted at first
+pub none_counted : (view : View) (sizes : Sizes) → sizes.known.entries ≡ [] → AreCounted view sizes
+none_counted view sizes e name c k = absurd (none-some c (sym (ap (λ es. lookup (is_at (λ x. slice_cmp nat_cmp name x.now)) es) e) ∙ k))
 
 -- ---- one struct
 
