@@ -7,3 +7,4 @@ pub mod Completing
 pub mod Pairs
 pub mod Settling
 pub mod Seeing
+pub mod Firsts

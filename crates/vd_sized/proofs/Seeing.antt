@@ -191,13 +191,14 @@ part_within [] k i h e = absurd (none-some h e)
 part_within (p ∷ ps) zero i h e = omega arith
 part_within (p ∷ ps) (suc k) i h e = let lt = part_within ps k i h e in omega arith
 
-pub all_seen : (view : View) (n : ℕ) (seen : List StructSeen) → length view.parts.now ≤ n → AreSeenBefore view n seen → AreAllSeen view seen
-all_seen view n seen le before = record {
-  meant = before.meant;
-  all = λ name fields m. elim m [
-    inl own ↦ at view.own own.0 name fields m closure.itself own.1.section own.1.stands own.1.says
-    | inr far ↦ at far.1.0 far.1.1 name fields m far.1.2.reached far.1.2.declared.section far.1.2.declared.stands far.1.2.declared.says
-  ];
-} where
-  at : (k i : ℕ) (name : Bytes) (fields : List Field) → MeansStruct view name fields → Reaches view.parts.now view.own k → (h : HeadSection) → IsSection view.parts.now k i h → h.content ≡ content.Struct name fields → Names seen name
-  at k i name fields m r h s e = let lt = part_within view.parts.now k i h s in before.all k i h name fields fields (omega arith) r s e m
+module _ (view : View) (n : ℕ) (seen : List StructSeen) (le : length view.parts.now ≤ n) (before : AreSeenBefore view n seen) where
+  seen_at : (k i : ℕ) (name : Bytes) (fields : List Field) → MeansStruct view name fields → Reaches view.parts.now view.own k → (h : HeadSection) → IsSection view.parts.now k i h → h.content ≡ content.Struct name fields
+      → Names seen name
+  seen_at k i name fields m r h s e = let lt = part_within view.parts.now k i h s in before.all k i h name fields fields (omega (arith, lt, le)) r s e m
+
+  seen_by : (name : Bytes) (fields : List Field) → MeansStruct view name fields → Means view.parts.now view.own space.Struct name (content.Struct name fields) → Names seen name
+  seen_by name fields m (inl own) = seen_at view.own own.0 name fields m closure.itself own.1.section own.1.stands own.1.says
+  seen_by name fields m (inr far) = seen_at far.1.0 far.1.1 name fields m far.1.2.reached far.1.2.declared.section far.1.2.declared.stands far.1.2.declared.says
+
+  pub all_seen : AreAllSeen view seen
+  all_seen = record { meant = before.meant; all = λ name fields m. seen_by name fields m m }
