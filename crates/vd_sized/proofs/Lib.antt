@@ -8,3 +8,5 @@ pub mod Pairs
 pub mod Settling
 pub mod Seeing
 pub mod Firsts
+pub mod Disagreeing
+pub mod Misfitting
