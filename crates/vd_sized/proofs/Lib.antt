@@ -10,3 +10,5 @@ pub mod Seeing
 pub mod Firsts
 pub mod Disagreeing
 pub mod Misfitting
+pub mod Defining
+pub mod Judging

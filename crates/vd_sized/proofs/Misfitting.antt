@@ -60,11 +60,15 @@ module _ (parts : List Part) (own : ℕ) where
   up : (n : ℕ) (vs : List Init) (ts : List CType) → AreUnfit parts own vs (take n ts) → AreUnfit parts own vs ts
   up zero vs ts h = elim h [ ]
   up (suc n) vs [] h = elim h [ ]
+  up (suc n) [] (t ∷ ts) h = elim h [ ]
   up (suc n) (v ∷ vs) (t ∷ ts) (initial.here h) = initial.here h
   up (suc n) (v ∷ vs) (t ∷ ts) (initial.there h) = initial.there (up n vs ts h)
 
   down : (n : ℕ) (vs : List Init) (ts : List CType) → length vs ≤ n → AreUnfit parts own vs ts → AreUnfit parts own vs (take n ts)
-  down zero (v ∷ vs) (t ∷ ts) le h = absurd (omega arith)
+  down zero [] ts le h = elim h [ ]
+  down zero (v ∷ vs) ts le h = absurd (omega arith)
+  down (suc n) [] ts le h = elim h [ ]
+  down (suc n) (v ∷ vs) [] le h = elim h [ ]
   down (suc n) (v ∷ vs) (t ∷ ts) le (initial.here h) = initial.here h
   down (suc n) (v ∷ vs) (t ∷ ts) le (initial.there h) = initial.there (down n vs ts (omega arith) h)
 
@@ -88,3 +92,7 @@ module _ (parts : List Part) (own : ℕ) where
           inl lt ↦ omega (arith, long, lt, ap length same)
           | inr u ↦ fit (subst (AreUnfit parts own values) (sym h.counts.first) (down most values h.cells le (subst (AreUnfit parts own values) same u)))
         ]
+
+    pub misfit_by : IsUnambiguous parts own → (b : Bool) → length values ≤ length c.first → IsTrue b ↔ AreUnfit parts own values firsts → IsTrue b ↔ HasMisfits parts own g values
+    misfit_by single true enough k = (λ t. some_unfit (k.0 t), λ w. refl)
+    misfit_by single false enough k = (λ t. absurd (no t), λ w. absurd (all_fit single enough (λ u. no (k.1 u)) w))

@@ -15,4 +15,4 @@ loop-a-preserved c =
     none_more (Disagrees c.args.view.now.parts.now c.args.view.now.own) c.args.assertions.now c.loop-a.a-index c.a-item.result c.loop-a-test.true c.a-item.is (λ d. no (sym c.if-disagrees.false ∙ c.disagrees.ensures.1 d)) c.loop-a.invariant
 
 pub returns : goal.returns
-returns c = (λ t. absurd (no t), λ w. none_all (Disagrees c.args.view.now.parts.now c.args.view.now.own) c.args.assertions.now c.loop-a.a-index c.loop-a-test.false c.loop-a.invariant w)
+returns c = (λ t. absurd (no t), λ w. absurd (none_all (Disagrees c.args.view.now.parts.now c.args.view.now.own) c.args.assertions.now c.loop-a.a-index c.loop-a-test.false c.loop-a.invariant w))
