@@ -6,3 +6,9 @@ pub mod Counting
 pub mod Completing
 pub mod Pairs
 pub mod Settling
+pub mod Seeing
+pub mod Firsts
+pub mod Disagreeing
+pub mod Misfitting
+pub mod Defining
+pub mod Judging

@@ -1,7 +1,8 @@
 -- Two lists that are walked together.
-use Rattle.std.proofs.Common.{◌≡◌, ℕ, ◌+◌, ◌<◌, ◌≤◌, List, [], ◌∷◌, length, get_or, drop, map, refl, sym, ap, ◌∙◌, subst, inl, inr, ◌⊎◌, arith}
-use Rattle.std.specs.Prelude.{◌↔◌}
-use Rattle.std.proofs.lemmas.List.{drop_more, drop_all}
+use Rattle.std.proofs.Common.{◌≡◌, ℕ, zero, suc, Bor, Option, Some, None, ◌+◌, ◌<◌, ◌≤◌, List, [], ◌∷◌, length, get_or, drop, map, refl, sym, ap, ◌∙◌, subst, inl, inr, ◌⊎◌, arith}
+use Rattle.std.specs.Prelude.{◌↔◌, slice_get}
+use Rattle.std.proofs.lemmas.List.{drop_more, drop_all, get_or-map, length-map}
+use Rattle.std.proofs.lemmas.Option.{none-some}
 use Rattle.vd_base.specs.declared.ctype.CType.{CType}
 use Rattle.vd_base.specs.declared.ctype.Field.{Field}
 use Rattle.vd_clight.specs.declared.program.Init.{Init}
@@ -9,6 +10,7 @@ use Rattle.vd_heads.specs.declared.content.Part.{Part}
 use Rattle.vd_sized.specs.Agreement.{SameTypes}
 use Rattle.vd_sized.specs.Initial.{AreUnfit, IsUnfit}
 use Rattle.vd_sized.specs.Initial as initial
+use Rattle.vd_sized.proofs.Seeing.{slice_get_at}
 
 -- the first of what is left
 pub left : {A : Type 0} (xs : List A) (i : ℕ) (x : A) → i < length xs → x ≡ get_or xs i x → drop i xs ≡ x ∷ drop (i + 1) xs
@@ -76,3 +78,22 @@ module _ (parts : List Part) (own : ℕ) where
 
     pub unfit_nowhere : rest ≡ [] → U vs ts → ⊥
     unfit_nowhere e h = no_cells_left (drop i vs) (subst (U (drop i vs)) e (so_far.0 h))
+
+-- ---- the cells that are left
+
+pub cell_left : (cells : List (Bor CType)) (i : ℕ) (cell : Bor CType) → Some cell ≡ slice_get cells i → drop i (map (λ (t : Bor CType). t.now) cells) ≡ cell.now ∷ drop (i + 1) (map (λ (t : Bor CType). t.now) cells)
+cell_left cells i cell e =
+    let at = slice_get_at cells i cell (sym e) in
+    let now : Bor CType → CType = λ t. t.now in
+    left (map now cells) i cell.now (omega (arith, at.0, length-map cells now)) (sym (get_or-map now cells i cell cell.now at.0 ∙ ap now at.1))
+
+past : {X : Type 0} (xs : List X) (i : ℕ) → None ≡ slice_get xs i → length xs ≤ i
+past [] i e = omega arith
+past (x ∷ xs) zero e = absurd (none-some x e)
+past (x ∷ xs) (suc i) e = let le = past xs i e in omega (arith, le)
+
+pub cells_missing : (cells : List (Bor CType)) (i : ℕ) → None ≡ slice_get cells i → drop i (map (λ (t : Bor CType). t.now) cells) ≡ []
+cells_missing cells i e = let le = past cells i e in drop_all i (map (λ (t : Bor CType). t.now) cells) (omega (arith, le, length-map cells (λ (t : Bor CType). t.now)))
+
+pub no_unfit_left : (parts : List Part) (own : ℕ) (vs : List Init) (ts rest : List CType) (i : ℕ) → length vs ≤ i → AreUnfit parts own vs ts ↔ AreUnfit parts own (drop i vs) rest → AreUnfit parts own vs ts → ⊥
+no_unfit_left parts own vs ts rest i le h u = no_values_left parts own rest (subst (λ l. AreUnfit parts own l rest) (drop_all i vs le) (h.0 u))

@@ -2,7 +2,11 @@
 use Rattle.std.proofs.Common.{◌≡◌, ℕ, ◌+◌, ◌<◌, ◌≤◌, Bool, true, false, cond, List, [], ◌∷◌, ◌++◌, length, get_or, take, Option, Some, None, refl, sym, ap, ◌∙◌, subst, inl, inr, ◌⊎◌, arith, min, ltb, IsTrue, zero, suc}
 use Rattle.std.specs.Prelude.{◌↔◌, MatchOption, MatchBool}
 use Rattle.std.specs.List.{All, Contains, repeat}
+use Rattle.std.specs.BTreeMap.{is_at}
+use Rattle.std.specs.Cmp.Lexicographic.{slice_cmp}
+use Rattle.std.specs.Map.{lookup}
 use Rattle.std.specs.Option.{is_some}
+use Rattle.std.specs.Ordering.{nat_cmp}
 use Rattle.std.specs.Str.{bytes_eq}
 use Rattle.std.proofs.lemmas.List.{length-append, take_more, take_all}
 use Rattle.std.proofs.lemmas.List.Elements.{All-push, Contains-append_left, Contains-push, Contains-push_cases}
@@ -68,6 +72,18 @@ module _ (view : View) (sizes : Sizes) where
   some_waits [] i f lt is w = absurd (omega arith)
   some_waits (g ∷ fields) zero f lt is w = sized.here (subst (λ x. Waits view sizes x.typ) is w)
   some_waits (g ∷ fields) (suc i) f lt is w = sized.there (some_waits fields i f (omega arith) is w)
+
+-- ---- what waits has no cells, so fields of which one waits have none
+
+pub no_together : (view : View) (sizes : Sizes) → ((t : CType) (ts : List CType) → HasCells view.parts.now view.own t ts → Waits view sizes t → ⊥) → {fs : List Field} {ts : List CType}
+    → HaveCells view.parts.now view.own fs ts → SomeWaits view sizes fs → ⊥
+no_together view sizes none cells.no_field w = elim w [ ]
+no_together view sizes none (cells.field_then {f} us vs a b e) (sized.here w) = none f.typ us a w
+no_together view sizes none (cells.field_then us vs a b e) (sized.there w) = no_together view sizes none b w
+
+-- nothing is counted at first
+pub none_counted : (view : View) (sizes : Sizes) → sizes.known.entries ≡ [] → AreCounted view sizes
+none_counted view sizes e name c k = absurd (none-some c (sym (ap (λ es. lookup (is_at (λ x. slice_cmp nat_cmp name x.now)) es) e) ∙ k))
 
 -- ---- one struct
 
@@ -196,3 +212,20 @@ module _ (H : List CType → Type 0) (one : (ts us : List CType) → H ts → H 
     λ t. over ((Decides-ltb most_cells c.count).0 (sym e ∙ t)),
     λ n. elim (cases_lt most_cells c.count) [ inl lt ↦ e ∙ (Decides-ltb most_cells c.count).1 lt | inr le ↦ absurd (not_over le n) ]
   )
+
+-- ---- one struct more in a pass
+
+module _ (view : View) (old mid new : Sizes) (waiting left after : List StructSeen) (i : ℕ) (s : StructSeen) (is_done : Bool) (lt : i < length waiting) (is : s ≡ get_or waiting i s)
+    (p : Passes view old mid (take i waiting) left) (step : IsCountedOrWaits view mid new s is_done) where
+  next : take (i + 1) waiting ≡ take i waiting ++ s ∷ []
+  next = take_more waiting i s lt ∙ ap (λ y. take i waiting ++ y ∷ []) (sym is)
+
+  pub goes_left : is_done ≡ false → IsMeant view s → after ≡ left ++ s ∷ [] → Passes view old new (take (i + 1) waiting) after
+  goes_left e meant put =
+      subst (λ w. Passes view old new w after) (sym next) (subst (λ l. Passes view old new (take i waiting ++ s ∷ []) l) (sym put)
+      (passes_left view old mid new (take i waiting) left s p (subst (IsCountedOrWaits view mid new s) e step) meant))
+
+  pub goes_by : is_done ≡ true → after ≡ left → Passes view old new (take (i + 1) waiting) after
+  goes_by e put =
+      subst (λ w. Passes view old new w after) (sym next) (subst (λ l. Passes view old new (take i waiting ++ s ∷ []) l) (sym put)
+      (passes_counted view old mid new (take i waiting) left s p (subst (IsCountedOrWaits view mid new s) e step)))

@@ -32,6 +32,11 @@ IsPlain t = (t ≡ typ.Int) ⊎ ((t ≡ typ.Unsigned) ⊎ (t ≡ typ.Lock))
 abbrev pub IsPointer : CType → Type 0
 IsPointer t = (to : CType) × (t ≡ typ.Pointer to)
 
+-- The section is that of a global whose address does not convert to a pointer to this type.
+abbrev pub IsOther : Content → CType → Type 0
+IsOther (content.Global g values) to = Converts (pointed g.typ) to → ⊥
+IsOther _ to = ⊥
+
 module _ (parts : List Part) (own : ℕ) where
   -- The address of a global stands in a pointer to which it does not convert.
   pub record IsOtherPointer (g : List ℕ) (t : CType) : Type 0 where

@@ -1,5 +1,5 @@
 -- The structs that a part sees.
-use Rattle.std.specs.Prelude.{◌≡◌, ◌<◌, ◌⊎◌, ℕ, List, [], ◌∷◌, ◌++◌}
+use Rattle.std.specs.Prelude.{◌≡◌, ◌<◌, ◌⊎◌, ℕ, List, [], ◌∷◌, ◌++◌, ⊤}
 use Rattle.std.specs.List.{All, Contains}
 use Rattle.vd_base.specs.declared.ctype.Field.{Field}
 use Rattle.vd_heads.specs.declared.content.Content.{Content}
@@ -11,6 +11,14 @@ use Rattle.vd_heads.specs.Closure.{Means, Reaches}
 use Rattle.vd_heads.specs.Declaration.{Bytes, IsSection}
 use Rattle.vd_sized.specs.declared.order.Open.{Open}
 use Rattle.vd_sized.specs.declared.order.StructSeen.{StructSeen}
+
+abbrev pub IsNoStruct : Content → Type 0
+IsNoStruct (content.Struct name fields) = ⊥
+IsNoStruct _ = ⊤
+
+-- The section declares that struct.
+abbrev pub IsStruct : Content → StructSeen → Type 0
+IsStruct c s = c ≡ content.Struct s.name.now s.fields.now
 
 -- A struct of that name stands in a list.
 pub record Names (seen : List StructSeen) (name : Bytes) : Type 0 where

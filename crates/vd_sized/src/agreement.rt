@@ -15,7 +15,7 @@ ghost use Rattle.vd_sized.specs.Sorts as sorts;
 
 use crate::initial::has_misfits;
 use crate::size::Sizes;
-use crate::sorts::{are_alike, have_sorts, is_of};
+use crate::sorts::{are_alike, have_sorts, is_of, same_sort};
 use crate::types::{same, same_types};
 use std::alloc::{AllocError, Global};
 use vd_base::{List, Name, are_fields};
@@ -128,17 +128,27 @@ fn label_of(item: &Item) -> Option<&Label>
     }
 }
 
+/// Whether the item's label is misused, if it has one.
+fn is_misuse(view: &View<'_>, item: &Item) -> bool
+    requires view { IsView view.now }
+    requires one { IsUnambiguous view.now.parts.now view.now.own }
+    ensures { IsTrue result ↔ Any (agreement.IsMisused view.now.parts.now view.now.own) (item_labels item.now) }
+{
+    match label_of(item) {
+        Some(label) => is_misused(view, label),
+        None => false,
+    }
+}
+
 /// Whether some label's predicate takes other arguments.
-fn misuse(view: &View<'_>, items: &[Item]) -> bool
+fn are_misuses(view: &View<'_>, items: &[Item]) -> bool
     requires view { IsView view.now }
     requires one { IsUnambiguous view.now.parts.now view.now.own }
     ensures { IsTrue result ↔ Any (agreement.IsMisused view.now.parts.now view.now.own) (flat_map item_labels items.now) }
 {
     for item in items {
-        if let Some(label) = label_of(item) {
-            if is_misused(view, label) {
-                return true;
-            }
+        if is_misuse(view, item) {
+            return true;
         }
     }
     false
@@ -157,7 +167,10 @@ fn disagrees(view: &View<'_>, a: &Assertion) -> bool
     requires one { IsUnambiguous view.now.parts.now view.now.own }
     ensures { IsTrue result ↔ agreement.Disagrees view.now.parts.now view.now.own a.now }
 {
-    !assertion_agrees(a) || misuse(view, a.items.as_slice())
+    if !assertion_agrees(a) {
+        return true;
+    }
+    are_misuses(view, a.items.as_slice())
 }
 
 fn some_disagrees(view: &View<'_>, assertions: &[Assertion]) -> bool
@@ -173,6 +186,24 @@ fn some_disagrees(view: &View<'_>, assertions: &[Assertion]) -> bool
     false
 }
 
+fn same_sorts(a: &[Sort], b: &[Sort]) -> bool
+    ensures { IsTrue result ↔ (a.now ≡ b.now) }
+{
+    let mut rest = b;
+    for s in a {
+        match rest.split_first() {
+            Some((t, others)) => {
+                if !same_sort(*s, *t) {
+                    return false;
+                }
+                rest = others;
+            }
+            None => return false,
+        }
+    }
+    rest.is_empty()
+}
+
 fn same_signature(f: &Spec, g: &Spec) -> bool
     ensures { IsTrue result ↔ agreement.SameSignature f.now g.now }
 {
@@ -185,7 +216,7 @@ fn matches(content: &Content, there: &Content) -> bool
 {
     match (content, there) {
         (Content::Pred(pred, _), Content::Abstract(_, sorts, _)) => {
-            pred.args.as_slice() == sorts.as_slice()
+            same_sorts(pred.args.as_slice(), sorts.as_slice())
         }
         (Content::Spec(spec, _), Content::Spec(other, _)) => same_signature(spec, other),
         _ => true,
@@ -199,7 +230,12 @@ fn defined(content: &Content) -> Option<(Space, &Name)>
     match content {
         Content::Pred(pred, _) => Some((Space::Predicate, &pred.name)),
         Content::Spec(spec, _) => Some((Space::Function, &spec.name)),
-        _ => None,
+        Content::Uses(_) => None,
+        Content::Exports(_) => None,
+        Content::Struct(_, _) => None,
+        Content::Global(_, _) => None,
+        Content::Abstract(_, _, _) => None,
+        Content::Unread(_) => None,
     }
 }
 
@@ -217,20 +253,29 @@ fn differs_at(view: &View<'_>, content: &Content, spot: Spot) -> bool
     }
 }
 
-/// Whether an interface that the part exports declares otherwise what a section defines.
-fn is_otherwise(view: &View<'_>, content: &Content) -> bool
-    requires { IsView view.now }
+/// Whether an interface that the part exports declares the name otherwise, which a section defines.
+fn is_declared_otherwise(view: &View<'_>, content: &Content, space: Space, name: &Name) -> bool
+    requires view { IsView view.now }
+    requires named { declares space name.now content.now ≡ true }
     ensures { IsTrue result ↔ agreement.IsOtherwise view.now.parts.now view.now.own content.now }
 {
-    let Some((space, name)) = defined(content) else {
-        return false;
-    };
     for spot in view.spots(space, name.as_bytes()) {
         if differs_at(view, content, *spot) {
             return true;
         }
     }
     false
+}
+
+/// Whether an interface that the part exports declares otherwise what a section defines.
+fn is_otherwise(view: &View<'_>, content: &Content) -> bool
+    requires { IsView view.now }
+    ensures { IsTrue result ↔ agreement.IsOtherwise view.now.parts.now view.now.own content.now }
+{
+    match defined(content) {
+        Some((space, name)) => is_declared_otherwise(view, content, space, name),
+        None => false,
+    }
 }
 
 /// Whether a section says something in which sorts or types disagree.
@@ -255,12 +300,24 @@ fn is_disagreement<'a>(
             has_misfits(alloc, view, sizes, field, values.as_slice())
         }
         Content::Pred(pred, _) => {
-            Ok(some_disagrees(view, pred.cases.as_slice()) || is_otherwise(view, content))
+            if some_disagrees(view, pred.cases.as_slice()) {
+                return Ok(true);
+            }
+            Ok(is_otherwise(view, content))
         }
-        Content::Spec(spec, _) => Ok(disagrees(view, &spec.pre)
-            || disagrees(view, &spec.post)
-            || is_otherwise(view, content)),
-        _ => Ok(false),
+        Content::Spec(spec, _) => {
+            if disagrees(view, &spec.pre) {
+                return Ok(true);
+            }
+            if disagrees(view, &spec.post) {
+                return Ok(true);
+            }
+            Ok(is_otherwise(view, content))
+        }
+        Content::Uses(_) => Ok(false),
+        Content::Exports(_) => Ok(false),
+        Content::Abstract(_, _, _) => Ok(false),
+        Content::Unread(_) => Ok(false),
     }
 }
 

@@ -35,6 +35,22 @@ fn converts(from: &CType, to: &CType) -> bool
     }
 }
 
+/// Whether a section is that of a global whose address does not convert to such a pointer.
+fn is_other(content: &Content, to: &CType) -> bool
+    ensures { IsTrue result ↔ initial.IsOther content.now to.now }
+{
+    match content {
+        Content::Global(field, _) => !converts(pointed(&field.typ), to),
+        Content::Uses(_) => false,
+        Content::Exports(_) => false,
+        Content::Struct(_, _) => false,
+        Content::Abstract(_, _, _) => false,
+        Content::Pred(_, _) => false,
+        Content::Spec(_, _) => false,
+        Content::Unread(_) => false,
+    }
+}
+
 /// Whether the address of a global does not convert to such a pointer.
 fn is_other_pointer(view: &View<'_>, name: &Name, to: &CType) -> bool
     requires view { IsView view.now }
@@ -42,8 +58,8 @@ fn is_other_pointer(view: &View<'_>, name: &Name, to: &CType) -> bool
     ensures { IsTrue result ↔ initial.IsOtherPointer view.now.parts.now view.now.own name.now (typ.Pointer to.now) }
 {
     match view.meaning(Space::Global, name) {
-        Some(Content::Global(field, _)) => !converts(pointed(&field.typ), to),
-        _ => false,
+        Some(content) => is_other(content, to),
+        None => false,
     }
 }
 
@@ -98,8 +114,12 @@ pub fn has_misfits<'a>(
     ensures { IfOk result (λ has. IsTrue has ↔ initial.HasMisfits view.now.parts.now view.now.own global.now values.now) }
 {
     match sizes.cells(alloc, view, &global.typ)? {
-        Some(cells) => Ok(cells.first.len() < values.len()
-            || are_unfit(view, values, &cells.first)),
+        Some(cells) => {
+            if cells.first.len() < values.len() {
+                return Ok(true);
+            }
+            Ok(are_unfit(view, values, &cells.first))
+        }
         None => Ok(false),
     }
 }

@@ -1,9 +1,9 @@
 //! The structs that a part sees.
 
-ghost use Rattle.std.specs.Prelude.{◌≡◌, IfOk, OnOk, MatchOption};
+ghost use Rattle.std.specs.Prelude.{◌≡◌, [], ◌∷◌, IfOk, OnOk, MatchOption};
 ghost use Rattle.std.specs.List.{All};
 ghost use Rattle.vd_heads.specs.Views.{IsView};
-ghost use Rattle.vd_sized.specs.Seen.{AreAdded, AreAllSeen, AreOpen, HasOpened, IsMeant, IsNotMeant};
+ghost use Rattle.vd_sized.specs.Seen.{AreAdded, AreAllSeen, AreOpen, HasOpened, IsMeant, IsNoStruct, IsNotMeant, IsStruct};
 
 use std::alloc::{AllocError, Global};
 use std::collections::BTreeSet;
@@ -31,18 +31,53 @@ struct Order<'a> {
     met: BTreeSet<&'a [u8]>,
 }
 
+/// The struct that a section declares.
+fn struct_in(content: &Content) -> Option<StructSeen<'_>>
+    ensures { MatchOption result (IsNoStruct content.now) (IsStruct content.now) }
+{
+    match content {
+        Content::Struct(name, fields) => Some(StructSeen {
+            name,
+            fields: fields.as_slice(),
+        }),
+        Content::Uses(_) => None,
+        Content::Exports(_) => None,
+        Content::Global(_, _) => None,
+        Content::Abstract(_, _, _) => None,
+        Content::Pred(_, _) => None,
+        Content::Spec(_, _) => None,
+        Content::Unread(_) => None,
+    }
+}
+
 /// The struct that a name means.
 fn struct_meant<'a>(view: &View<'a>, name: &Name) -> Option<StructSeen<'a>>
     requires { IsView view.now }
     ensures { MatchOption result (IsNotMeant view.now name.now) (λ s. (s.name.now ≡ name.now) × IsMeant view.now s) }
 {
     match view.meaning(Space::Struct, name) {
-        Some(Content::Struct(name, fields)) => Some(StructSeen {
-            name,
-            fields: fields.as_slice(),
-        }),
-        _ => None,
+        Some(content) => struct_in(content),
+        None => None,
     }
+}
+
+/// Adds what the name of the struct in a section means.
+fn add_struct<'a>(
+    view: &View<'a>,
+    section: &HeadSection,
+    seen: &mut List<StructSeen<'a>>,
+) -> Result<(), AllocError>
+    requires view { IsView view.now }
+    requires seen { All (IsMeant view.now) seen.old }
+    ensures { OnOk result (AreAdded view.now (section.now ∷ []) seen.old seen.new) }
+{
+    let Some(declared) = struct_in(&section.content) else {
+        return Ok(());
+    };
+    let Some(known) = struct_meant(view, declared.name) else {
+        return Ok(());
+    };
+    seen.push(known)
 }
 
 /// Adds what the names of the structs in sections mean.
@@ -56,11 +91,7 @@ fn add_structs<'a>(
     ensures { OnOk result (AreAdded view.now sections.now seen.old seen.new) }
 {
     for section in sections {
-        if let Content::Struct(name, _) = &section.content {
-            if let Some(known) = struct_meant(view, name) {
-                seen.push(known)?;
-            }
-        }
+        add_struct(view, section, seen)?;
     }
     Ok(())
 }
@@ -89,7 +120,7 @@ impl<'a> Order<'a> {
         known: StructSeen<'a>,
         stack: &mut List<Open<'a>>,
     ) -> Result<(), AllocError>
-        ensures stack { OnOk result (HasOpened known stack.old stack.new) }
+        ensures stack { OnOk result (HasOpened known.entry stack.old stack.new) }
         ensures structs { self.new.structs ≡ self.old.structs }
     {
         if self.met.insert(known.name.as_bytes())? {

@@ -9,7 +9,7 @@ ghost use Rattle.vd_heads.specs.Views.{IsView};
 ghost use Rattle.vd_sized.specs.Cells.{HasCells, HaveCells, IsLarge, is_one};
 ghost use Rattle.vd_sized.specs.Counts.{CountsSome};
 ghost use Rattle.vd_sized.specs.Seen.{IsMeant};
-ghost use Rattle.vd_sized.specs.Sizes.{AreCounted, AreEnough, AreSizes, IsCountedOrWaits, Passes, Settles, SomeWaits, Waits};
+ghost use Rattle.vd_sized.specs.Sizes.{AreCounted, AreEnough, AreSizes, HasEnough, IsCountedOrWaits, Passes, Settles, SomeWaits, Waits};
 
 use crate::leaves::{Counted, MOST_CELLS};
 use crate::order::{StructSeen, struct_order, structs_seen};
@@ -26,15 +26,29 @@ pub struct Sizes<'a> {
     known: BTreeMap<&'a [u8], Counted<'a>>,
 }
 
+/// How many initial values a section gives.
+fn values_in(content: &Content) -> usize
+    ensures { HasEnough result content.now }
+{
+    match content {
+        Content::Global(_, values) => values.len(),
+        Content::Uses(_) => 0,
+        Content::Exports(_) => 0,
+        Content::Struct(_, _) => 0,
+        Content::Abstract(_, _, _) => 0,
+        Content::Pred(_, _) => 0,
+        Content::Spec(_, _) => 0,
+        Content::Unread(_) => 0,
+    }
+}
+
 /// The most initial values of a global in the part.
 fn most_values(view: &View<'_>) -> usize
     ensures { AreEnough view.now result }
 {
     let mut most = 0;
     for section in view.sections() {
-        if let Content::Global(_, values) = &section.content {
-            most = values.len().max(most);
-        }
+        most = values_in(&section.content).max(most);
     }
     most
 }

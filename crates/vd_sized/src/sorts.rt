@@ -1,6 +1,6 @@
 //! Sorts of terms.
 
-ghost use Rattle.std.specs.Prelude.{◌≡◌, map};
+ghost use Rattle.std.specs.Prelude.{◌≡◌, ◌↔◌, map, IsTrue};
 ghost use Rattle.vd_sized.specs.Sorts as sorts;
 
 use vd_base::List;
@@ -33,8 +33,10 @@ fn signature(op: Op) -> (&'static [Sort], Sort)
     }
 }
 
-fn same_sort(a: Sort, b: Sort) -> bool
-    ensures { result ≡ sorts.same_sort a b }
+/// Whether two sorts are the same.
+pub fn same_sort(a: Sort, b: Sort) -> bool
+    ensures value { result ≡ sorts.same_sort a b }
+    ensures same { IsTrue result ↔ (a ≡ b) }
 {
     match (a, b) {
         (Sort::Int, Sort::Int) => true,
