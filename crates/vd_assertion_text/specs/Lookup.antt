@@ -4,7 +4,7 @@ use Rattle.std.specs.BTreeMap.{get_by}
 use Rattle.std.specs.Cmp.Lexicographic.{slice_cmp}
 use Rattle.std.specs.Ordering.{nat_cmp}
 use Rattle.vd_logic.specs.declared.term.Sort.{Sort}
-use Rattle.vd_logic_grammar.specs.Variables.{variable_from}
+use Rattle.vd_logic_grammar.specs.Variables.{variable_from, hides}
 use Rattle.vd_assertion_text.specs.declared.variables.Variables.{Variables}
 
 -- the variable that a name stands for
@@ -15,3 +15,4 @@ variable_in variables name = get_by (λ k. slice_cmp nat_cmp name k.now) variabl
 pub record Stands (variables : Variables) (names : List (List ℕ × Sort)) : Type 0 where
   pub count : variables.count ≡ length names
   pub numbers : (name : List ℕ) → variable_in variables name ≡ variable_from 0 names name
+  pub hides : variables.hides ≡ hides names

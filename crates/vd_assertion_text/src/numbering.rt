@@ -1,8 +1,8 @@
 //! Variables in the place of names.
 
-ghost use Rattle.std.specs.Prelude.{◌≡◌, IfOk, map};
+ghost use Rattle.std.specs.Prelude.{◌≡◌, ◌++◌, IfOk, map};
 ghost use Rattle.vd_logic.specs.Parts.{map_prop, map_label, map_item, map_local};
-ghost use Rattle.vd_logic_grammar.specs.Variables.{named_or, numbered, numbered_by, numbered_assertion, sorts_of, with_result};
+ghost use Rattle.vd_logic_grammar.specs.Variables.{named_or, numbered, numbered_by, numbered_assertion, sorts_of, hides, with_result};
 ghost use Rattle.vd_logic_grammar.specs.Variables as names;
 ghost use Rattle.vd_assertion_text.specs.Lookup.{variable_in};
 
@@ -177,16 +177,27 @@ fn numbered_by(
     })
 }
 
-/// An assertion with variables in the place of the names that are declared before it, and of those that it opens.
+/// An assertion with variables in the place of the names that are declared before it, and of those that it opens; and
+/// whether one of these names hides another.
 pub(crate) fn numbered(
     alloc: Global,
     before: &[(Name, Sort)],
     a: &AssertionText,
-) -> Result<Assertion, AllocError>
-    ensures { IfOk result (λ it. it ≡ numbered_assertion before.now a.now) }
+) -> Result<(Assertion, bool), AllocError>
+    ensures assertion { IfOk result (λ it. it.0 ≡ numbered_assertion before.now a.now) }
+    ensures hides { IfOk result (λ it. it.1 ≡ hides (before.now ++ a.now.opened)) }
 {
     let variables = Variables::of(alloc, before, a.opened.as_slice())?;
-    numbered_by(alloc, &variables, a)
+    let assertion = numbered_by(alloc, &variables, a)?;
+    Ok((assertion, variables.hides))
+}
+
+/// Whether one of these names hides another.
+pub(crate) fn hides(alloc: Global, names: &[(Name, Sort)]) -> Result<bool, AllocError>
+    ensures { IfOk result (λ it. it ≡ hides names.now) }
+{
+    let variables = Variables::of(alloc, names, &[])?;
+    Ok(variables.hides)
 }
 
 fn result_name(alloc: Global) -> Result<Name, AllocError>

@@ -9,7 +9,7 @@ ghost use Rattle.vd_logic_grammar.specs.Variables as variables;
 
 use crate::assertion::{assertion, facts};
 use crate::binder::binders;
-use crate::numbering::{numbered, sorts_of, with_result};
+use crate::numbering::{hides, numbered, sorts_of, with_result};
 use crate::parameters::parameters;
 use crate::types::ctype;
 use std::alloc::{AllocError, Global};
@@ -26,12 +26,14 @@ pub fn claim(alloc: Global, tokens: &mut Tokens<'_>) -> Result<Assertion, Stop>
     ensures no_longer { length tokens.new ≤ length tokens.old }
 {
     let text = assertion(alloc, tokens)?;
-    Ok(numbered(alloc, &[], &text)?)
+    let (claim, _) = numbered(alloc, &[], &text)?;
+    Ok(claim)
 }
 
-/// The arguments of a predicate that an interface declares, and the line `end`.
+/// The sorts of the arguments of a predicate that an interface declares, whether the name of one hides another's, and the
+/// line `end`.
 #[tactic(auto, using(vd_logic_grammar::specs::Laws::read_is))]
-pub fn abstract_section(alloc: Global, tokens: &mut Tokens<'_>) -> Result<List<Sort>, Stop>
+pub fn abstract_section(alloc: Global, tokens: &mut Tokens<'_>) -> Result<(List<Sort>, bool), Stop>
     ensures reads { Reads (read Phrase.AbstractSection tokens.old) result tokens.new }
     ensures no_longer { length tokens.new ≤ length tokens.old }
 {
@@ -39,7 +41,9 @@ pub fn abstract_section(alloc: Global, tokens: &mut Tokens<'_>) -> Result<List<S
     let names = binders(alloc, tokens)?;
     tokens.take(Kind::RightParen)?;
     tokens.take(Kind::EndLine)?;
-    Ok(sorts_of(alloc, names.as_slice())?)
+    let sorts = sorts_of(alloc, names.as_slice())?;
+    let hides = hides(alloc, names.as_slice())?;
+    Ok((sorts, hides))
 }
 
 /// The cases behind others.
@@ -75,22 +79,26 @@ fn number_cases(
     alloc: Global,
     names: &[(Name, Sort)],
     cases: &List<AssertionText>,
-) -> Result<List<Assertion>, AllocError>
-    ensures { IfOk result (λ found. found ≡ map (variables.numbered_assertion names.now) cases.now) }
+) -> Result<(List<Assertion>, bool), AllocError>
+    ensures cases { IfOk result (λ it. it.0 ≡ map (variables.numbered_assertion names.now) cases.now) }
+    ensures hides { IfOk result (λ it. it.1 ≡ variables.hides_in_case names.now cases.now) }
 {
     let mut found = List::new(alloc);
+    let mut hides = false;
     for case in cases.as_slice() {
-        found.push(numbered(alloc, names, case)?)?;
+        let (assertion, hides_here) = numbered(alloc, names, case)?;
+        found.push(assertion)?;
+        hides |= hides_here;
     }
-    Ok(found)
+    Ok((found, hides))
 }
 
-/// The sorts of a predicate's arguments, its cases, and the line `end`.
+/// The sorts of a predicate's arguments, its cases, whether in one a name hides another, and the line `end`.
 #[tactic(auto, using(vd_logic_grammar::specs::Laws::read_is))]
 pub fn pred_section(
     alloc: Global,
     tokens: &mut Tokens<'_>,
-) -> Result<(List<Sort>, List<Assertion>), Stop>
+) -> Result<(List<Sort>, List<Assertion>, bool), Stop>
     ensures reads { Reads (read Phrase.PredSection tokens.old) result tokens.new }
     ensures no_longer { length tokens.new ≤ length tokens.old }
 {
@@ -100,8 +108,8 @@ pub fn pred_section(
     let texts = cases(alloc, tokens)?;
     tokens.take(Kind::EndLine)?;
     let sorts = sorts_of(alloc, names.as_slice())?;
-    let cases = number_cases(alloc, names.as_slice(), &texts)?;
-    Ok((sorts, cases))
+    let (cases, hides) = number_cases(alloc, names.as_slice(), &texts)?;
+    Ok((sorts, cases, hides))
 }
 
 #[tactic(auto, using(vd_logic_grammar::specs::Laws::read_is))]
@@ -146,25 +154,28 @@ fn specification(
     names: List<(Name, Sort)>,
     pre: &AssertionText,
     post: &AssertionText,
-) -> Result<Spec, AllocError>
-    ensures { IfOk result (λ it. it ≡ variables.spec_of signature names pre.now post.now) }
+) -> Result<(Spec, bool), AllocError>
+    ensures spec { IfOk result (λ it. it.0 ≡ variables.spec_of signature names pre.now post.now) }
+    ensures hides { IfOk result (λ it. it.1 ≡ variables.hides_in_spec names post.now) }
 {
-    let pre = numbered(alloc, names.as_slice(), pre)?;
+    let (pre, _) = numbered(alloc, names.as_slice(), pre)?;
     let all = with_result(alloc, names.as_slice())?;
-    let post = numbered(alloc, all.as_slice(), post)?;
-    Ok(Spec {
+    let (post, hides) = numbered(alloc, all.as_slice(), post)?;
+    let spec = Spec {
         ret: signature.ret,
         name: signature.name,
         params: signature.params,
         with: names,
         pre,
         post,
-    })
+    };
+    Ok((spec, hides))
 }
 
-/// The specification of a function, and the line `end`.
+/// The specification of a function, whether one of its variables, the result and what its postcondition opens hides
+/// another, and the line `end`.
 #[tactic(auto, using(vd_logic_grammar::specs::Laws::read_is))]
-pub fn spec_section(alloc: Global, tokens: &mut Tokens<'_>) -> Result<Spec, Stop>
+pub fn spec_section(alloc: Global, tokens: &mut Tokens<'_>) -> Result<(Spec, bool), Stop>
     ensures reads { Reads (read Phrase.SpecSection tokens.old) result tokens.new }
     ensures no_longer { length tokens.new ≤ length tokens.old }
 {

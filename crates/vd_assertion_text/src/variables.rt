@@ -1,19 +1,20 @@
 //! Variables by names.
 
-ghost use Rattle.std.specs.Prelude.{◌≡◌, ◌+◌, ◌++◌, ℕ, List, None, Some, if◌then◌else◌, IfOk, OnOk};
+ghost use Rattle.std.specs.Prelude.{◌≡◌, ◌+◌, ◌++◌, ◌||◌, ℕ, false, List, None, Some, if◌then◌else◌, is_some, IfOk, OnOk};
 ghost use Rattle.std.specs.Str.{bytes_eq};
-ghost use Rattle.vd_logic_grammar.specs.Variables.{variable_from};
+ghost use Rattle.vd_logic_grammar.specs.Variables.{variable_from, hides};
 
 use std::alloc::{AllocError, Global};
 use std::collections::BTreeMap;
 use vd_base::Name;
 use vd_logic::Sort;
 
-/// What names stand for, and how many were declared.
+/// What names stand for, how many were declared, and whether one hides an earlier one.
 #[derive(Drop)]
 pub struct Variables<'a> {
     pub(crate) numbers: BTreeMap<&'a [u8], (u32, Sort)>,
     pub(crate) count: u32,
+    pub(crate) hides: bool,
 }
 
 impl<'a> Variables<'a> {
@@ -23,10 +24,12 @@ impl<'a> Variables<'a> {
     fn new(alloc: Global) -> Variables<'a>
         ensures none { (name : List ℕ) → variable_in result name ≡ None }
         ensures count { result.count ≡ 0 }
+        ensures hides { result.hides ≡ false }
     {
         Variables {
             numbers: BTreeMap::new(alloc),
             count: 0,
+            hides: false,
         }
     }
 
@@ -41,11 +44,13 @@ impl<'a> Variables<'a> {
     fn add(&mut self, name: &'a [u8], sort: Sort) -> Result<(), AllocError>
         ensures names { OnOk result ((other : List ℕ) → variable_in self.new other ≡ (if bytes_eq name.now other then Some (self.old.count, sort) else variable_in self.old other)) }
         ensures count { OnOk result (self.new.count ≡ self.old.count + 1) }
+        ensures hides { OnOk result (self.new.hides ≡ (self.old.hides || is_some (variable_in self.old name.now))) }
     {
         if self.count == 4294967295 {
             return Err(AllocError);
         }
-        self.numbers.insert(name, (self.count, sort))?;
+        let stood = self.numbers.insert(name, (self.count, sort))?;
+        self.hides |= stood.is_some();
         self.count += 1;
         Ok(())
     }
@@ -66,7 +71,8 @@ impl<'a> Variables<'a> {
         before: &'a [(Name, Sort)],
         opened: &'a [(Name, Sort)],
     ) -> Result<Variables<'a>, AllocError>
-        ensures { IfOk result (λ it. (name : List ℕ) → variable_in it name ≡ variable_from 0 (before.now ++ opened.now) name) }
+        ensures numbers { IfOk result (λ it. (name : List ℕ) → variable_in it name ≡ variable_from 0 (before.now ++ opened.now) name) }
+        ensures hides { IfOk result (λ it. it.hides ≡ hides (before.now ++ opened.now)) }
     {
         let mut variables = Variables::new(alloc);
         variables.add_all(before)?;

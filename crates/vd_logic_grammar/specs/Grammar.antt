@@ -36,11 +36,11 @@ pub data Phrase : Type 0 where
   Steps Step_ FlowStep LeavingStep CallStep FactStep ItemStep LastStep : Phrase
   Back Occurrence_ Forgotten_ Second : Phrase
 
--- the syntax of each
+-- the syntax of each; at the first three also whether a name hides another
 abbrev pub Value : Phrase → Type 0
-Value AbstractSection = List Sort
-Value PredSection = List Sort × List Assertion
-Value SpecSection = Spec
+Value AbstractSection = List Sort × Bool
+Value PredSection = List Sort × List Assertion × Bool
+Value SpecSection = Spec × Bool
 Value ScriptSection = List Step
 Value InitSection = List Item × List Step
 Value Binders = List (List ℕ × Sort)

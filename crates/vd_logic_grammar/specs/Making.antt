@@ -13,14 +13,14 @@ use Rattle.vd_logic_grammar.specs.declared.kind.Class.{Class}
 use Rattle.vd_logic_grammar.specs.Lexeme.{Lexeme}
 use Rattle.vd_logic_grammar.specs.Numbers.{numbered_steps}
 use Rattle.vd_logic_grammar.specs.Syntax.{sort_of, simple_of, pointers, field_of, relation_of, summing_of, summed, multiplied, cons, nil, unnumbered, block_of}
-use Rattle.vd_logic_grammar.specs.Variables.{sorts_of, numbered_assertion, spec_of}
+use Rattle.vd_logic_grammar.specs.Variables.{sorts_of, hides, hides_in_case, hides_in_spec, numbered_assertion, spec_of}
 use Rattle.vd_logic_grammar.specs.Grammar.{Phrase, Value, Rule, symbols}
 
 -- The syntax of each rule, given that of its symbols. A number of the grammar is its token's, and an operation its word's.
 abbrev pub make : {P : Phrase} → (r : Rule P) → Row Class Phrase Lexeme Value (symbols r) → Value P
-make Rule.abstract_section (_, (bs, _)) = sorts_of bs
-make Rule.pred_section (_, (bs, (_, (cs, _)))) = (sorts_of bs, map (numbered_assertion bs) cs)
-make Rule.spec_section (f, (ws, (_, (pre, (_, (post, _)))))) = spec_of f ws pre post
+make Rule.abstract_section (_, (bs, _)) = (sorts_of bs, hides bs)
+make Rule.pred_section (_, (bs, (_, (cs, _)))) = (sorts_of bs, map (numbered_assertion bs) cs, hides_in_case bs cs)
+make Rule.spec_section (f, (ws, (_, (pre, (_, (post, _)))))) = (spec_of f ws pre post, hides_in_spec ws post)
 make Rule.script_section (ss, _) = numbered_steps ss
 make Rule.init_section (_, (_, (js, (ss, _)))) = (js, numbered_steps ss)
 make Rule.first_binder (x, (_, (w, (bs, _)))) = (x.spelling, sort_of w.kind) ∷ bs

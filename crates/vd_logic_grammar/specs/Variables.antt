@@ -1,5 +1,6 @@
 -- What a name stands for: a variable where it is declared, and else itself.
-use Rattle.std.specs.Prelude.{ℕ, suc, List, [], ◌∷◌, ◌++◌, map, codes, Option, None, Some, if◌then◌else◌}
+use Rattle.std.specs.Prelude.{ℕ, suc, Bool, false, ◌||◌, List, [], ◌∷◌, ◌++◌, map, codes, Option, None, Some, if◌then◌else◌}
+use Rattle.std.specs.List.{list_any}
 use Rattle.std.specs.Str.{bytes_eq}
 use Rattle.vd_clight.specs.declared.program.Signature.{Signature}
 use Rattle.vd_logic.specs.declared.assertion.Assertion.{Assertion}
@@ -24,6 +25,15 @@ later None first = first
 abbrev pub variable_from : ℕ → List (List ℕ × Sort) → List ℕ → Option (ℕ × Sort)
 variable_from n [] name = None
 variable_from n (d ∷ ds) name = later (variable_from (suc n) ds name) (if bytes_eq d.0 name then Some (n, d.1) else None)
+
+-- some declaration has this name
+abbrev pub is_declared : List (List ℕ × Sort) → List ℕ → Bool
+is_declared ds name = list_any (λ d. bytes_eq d.0 name) ds
+
+-- some declaration has the name of an earlier one, which it hides
+abbrev pub hides : List (List ℕ × Sort) → Bool
+hides [] = false
+hides (d ∷ ds) = is_declared ds d.0 || hides ds
 
 abbrev pub named_or : List ℕ → Option (ℕ × Sort) → Term
 named_or name None = Named name
@@ -53,6 +63,10 @@ numbered_by variable a = record {
 abbrev pub numbered_assertion : List (List ℕ × Sort) → AssertionText → Assertion
 numbered_assertion before a = numbered_by (variable_from 0 (before ++ a.opened)) a
 
+-- among the arguments of a predicate and what some one case opens, a name hides another
+abbrev pub hides_in_case : List (List ℕ × Sort) → List AssertionText → Bool
+hides_in_case names cases = list_any (λ a. hides (names ++ a.opened)) cases
+
 -- the name of the result of a function
 abbrev pub result_name : List ℕ
 result_name = codes "r"
@@ -71,3 +85,7 @@ spec_of f names pre post = record {
   pre = numbered_assertion names pre;
   post = numbered_assertion (with_result names) post;
 }
+
+-- Among the variables of a specification, the result's and what the postcondition opens, a name hides another. A precondition opens nothing.
+abbrev pub hides_in_spec : List (List ℕ × Sort) → AssertionText → Bool
+hides_in_spec names post = hides (with_result names ++ post.opened)

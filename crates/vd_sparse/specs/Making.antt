@@ -1,5 +1,5 @@
 -- What a reader makes of the tokens of a section.
-use Rattle.std.specs.Prelude.{ℕ, Bool, List, Result}
+use Rattle.std.specs.Prelude.{ℕ, List, Result}
 use Rattle.vd_grammar.specs.declared.fault.ParseFault.{ParseFault}
 use Rattle.vd_logic_grammar.specs.declared.front.Front.{Front}
 use Rattle.vd_logic_grammar.specs.Fronts.{IsFront}

@@ -1,12 +1,7 @@
 -- What a section of the logic is, and what a reader of sections answers.
-use Rattle.std.specs.Prelude.{ℕ, Bool, true, false, List, codes, Result, if◌then◌else◌}
+use Rattle.std.specs.Prelude.{ℕ, List, codes, Result, if◌then◌else◌}
 use Rattle.std.specs.Str.{bytes_eq}
 use Rattle.vd_grammar.specs.declared.fault.ParseFault.{ParseFault}
-use Rattle.vd_logic.specs.declared.assertion.Assertion.{Assertion}
-use Rattle.vd_logic.specs.declared.assertion.Item.{Item}
-use Rattle.vd_logic.specs.declared.assertion.Spec.{Spec}
-use Rattle.vd_logic.specs.declared.step.Step.{Step}
-use Rattle.vd_logic.specs.declared.term.Sort.{Sort}
 use Rattle.vd_section.specs.Answer.{AnswersText}
 use Rattle.vd_section.specs.HeaderLine.{HeaderCut, word_of, named_header, plain_header}
 use Rattle.vd_tokens.specs.declared.alphabet.Alphabet.TheVariants.{Logic}
@@ -60,9 +55,9 @@ phrase_of kind.Init = InitSection
 
 -- what it says, with the header's name
 abbrev pub made : (k : SectionKind) → List ℕ → Value (phrase_of k) → LogicText
-made kind.Abstract own sorts = logic.Abstract own sorts
-made kind.Pred own p = logic.Pred (record { name = own; args = p.0; cases = p.1 })
-made kind.Spec own spec = logic.Spec spec
+made kind.Abstract own p = logic.Abstract own p.0 p.1
+made kind.Pred own p = logic.Pred (record { name = own; args = p.0; cases = p.1 }) p.2
+made kind.Spec own p = logic.Spec p.0 p.1
 made kind.Script own steps = logic.Script own steps
 made kind.Sub own steps = logic.Sub own steps
 made kind.Init own p = logic.Init p.0 p.1

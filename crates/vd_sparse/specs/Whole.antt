@@ -4,9 +4,8 @@ use Rattle.std.proofs.Common.{inl, inr}
 use Rattle.vd_grammar.specs.declared.fault.ParseFault.{ParseFault}
 use Rattle.vd_grammar.specs.declared.fault.ParseFault.TheVariants as fault
 use Rattle.vd_grammar.specs.declared.fault.Cause.{Cause}
-use Rattle.vd_section.specs.Answer.{made_of, IsRead, AnswersText}
+use Rattle.vd_section.specs.Answer.{made_of, IsRead}
 use Rattle.vd_section.specs.Exact as exactness
-use Rattle.vd_section.specs.HeaderLine.{HeaderCut}
 use Rattle.vd_section.specs.Place.{is_text, place_of_end}
 use Rattle.vd_tokens.specs.declared.alphabet.Alphabet.TheVariants.{Logic}
 use Rattle.vd_logic_grammar.specs.Choice.{grammar}

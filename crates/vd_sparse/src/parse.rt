@@ -16,7 +16,7 @@ use crate::text::LogicText;
 use std::alloc::{AllocError, Global};
 use vd_base::{List, Name, NameFault, Text};
 use vd_grammar::ParseFault;
-use vd_logic::{Assertion, Item, PredDef, Sort, Step};
+use vd_logic::{Assertion, Item, PredDef, Sort, Spec, Step};
 use vd_logic_grammar::{Front, Language, named_front, plain_front};
 use vd_section::split_word;
 
@@ -31,11 +31,25 @@ fn own_name(alloc: Global, own: &[u8]) -> Result<Name, AllocError>
     }
 }
 
-fn predicate(name: Name, found: (List<Sort>, List<Assertion>)) -> LogicText
+fn declared(name: Name, found: (List<Sort>, bool)) -> LogicText
+    ensures { result ≡ made SectionKind.Abstract name found }
+{
+    let (args, hides) = found;
+    LogicText::Abstract(name, args, hides)
+}
+
+fn predicate(name: Name, found: (List<Sort>, List<Assertion>, bool)) -> LogicText
     ensures { result ≡ made SectionKind.Pred name found }
 {
-    let (args, cases) = found;
-    LogicText::Pred(PredDef { name, args, cases })
+    let (args, cases, hides) = found;
+    LogicText::Pred(PredDef { name, args, cases }, hides)
+}
+
+fn specification(found: (Spec, bool)) -> LogicText
+    ensures { result ≡ made SectionKind.Spec [] found }
+{
+    let (spec, hides) = found;
+    LogicText::Spec(spec, hides)
 }
 
 fn initial(found: (List<Item>, List<Step>)) -> LogicText
@@ -53,7 +67,7 @@ fn made_abstract(alloc: Global, front: &Front<'_>) -> Result<LogicText, ParseFau
     match own_name(alloc, front.own) {
         Ok(name) => {
             match read_abstract(alloc, front.tokens.as_slice(), front.cause, front.at) {
-                Ok(found) => Ok(LogicText::Abstract(name, found)),
+                Ok(found) => Ok(declared(name, found)),
                 Err(fault) => Err(fault),
             }
         }
@@ -82,7 +96,7 @@ fn made_spec(alloc: Global, front: &Front<'_>) -> Result<LogicText, ParseFault>
     ensures { Makes SectionKind.Spec front.now result }
 {
     match read_spec(alloc, front.tokens.as_slice(), front.cause, front.at) {
-        Ok(found) => Ok(LogicText::Spec(found)),
+        Ok(found) => Ok(specification(found)),
         Err(fault) => Err(fault),
     }
 }

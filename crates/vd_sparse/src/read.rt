@@ -19,7 +19,7 @@ pub(crate) fn read_abstract(
     tokens: &[Token<'_>],
     cause: Cause,
     at: u32,
-) -> Result<List<Sort>, ParseFault>
+) -> Result<(List<Sort>, bool), ParseFault>
     requires { all_fit (lexemes_of tokens.now) ≡ true }
     ensures { (ts : List Lexeme) (is_text : Bool) (end : ℕ) → IsCut ts is_text end (lexemes_of tokens.now) cause at → Answers Phrase.AbstractSection ts is_text end result }
 {
@@ -42,7 +42,7 @@ pub(crate) fn read_pred(
     tokens: &[Token<'_>],
     cause: Cause,
     at: u32,
-) -> Result<(List<Sort>, List<Assertion>), ParseFault>
+) -> Result<(List<Sort>, List<Assertion>, bool), ParseFault>
     requires { all_fit (lexemes_of tokens.now) ≡ true }
     ensures { (ts : List Lexeme) (is_text : Bool) (end : ℕ) → IsCut ts is_text end (lexemes_of tokens.now) cause at → Answers Phrase.PredSection ts is_text end result }
 {
@@ -65,7 +65,7 @@ pub(crate) fn read_spec(
     tokens: &[Token<'_>],
     cause: Cause,
     at: u32,
-) -> Result<Spec, ParseFault>
+) -> Result<(Spec, bool), ParseFault>
     requires { all_fit (lexemes_of tokens.now) ≡ true }
     ensures { (ts : List Lexeme) (is_text : Bool) (end : ℕ) → IsCut ts is_text end (lexemes_of tokens.now) cause at → Answers Phrase.SpecSection ts is_text end result }
 {

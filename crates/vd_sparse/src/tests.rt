@@ -182,8 +182,9 @@ fn variables(rt: HostRuntime) -> Result<(), Fail> {
         rt.alloc(),
         b"spec f\nint f ( int p ) with a : val , b : val , a : int ;\npre prop ( a = b ) local ( p = c ) sep ( )\npost ex m : int , n : val ; prop ( m = r ) sep ( q(n, b) )\nend\n",
     )?;
-    match parse_logic(rt.alloc(), &text) {
-        Ok(LogicText::Spec(spec)) => {
+    let read = parse_logic(rt.alloc(), &text);
+    match &read {
+        Ok(LogicText::Spec(spec, _)) => {
             assert!(rt; equates(spec.pre.props.as_slice(), 2, 1));
             assert!(rt; equates(spec.post.props.as_slice(), 4, 3));
             assert_eq!(rt; (spec.with.len(), spec.post.opened.len()), (3, 2));
@@ -193,6 +194,62 @@ fn variables(rt: HostRuntime) -> Result<(), Fail> {
             }
         }
         _ => assert!(rt; false),
+    }
+    Ok(())
+}
+
+/// Whether a declaration hides an earlier one, where the section tells.
+fn hides(alloc: Global, text: &[u8]) -> Result<Option<bool>, AllocError> {
+    let text = Text::new(alloc, text)?;
+    match parse_logic(alloc, &text) {
+        Ok(LogicText::Abstract(_, _, hides)) => Ok(Some(hides)),
+        Ok(LogicText::Pred(_, hides)) => Ok(Some(hides)),
+        Ok(LogicText::Spec(_, hides)) => Ok(Some(hides)),
+        _ => Ok(None),
+    }
+}
+
+/// Cases are scopes of their own, and so are the parameters of a function.
+#[test]
+fn hiding(rt: HostRuntime) -> Result<(), Fail> {
+    let cases: [(&[u8], bool); 10] = [
+        (b"abstract p\n( a : int , b : int )\nend\n", false),
+        (b"abstract p\n( a : int , a : val )\nend\n", true),
+        (
+            b"pred p\n( r : int ) case ex b : int ; prop ( ) sep ( ) case ex b : int ; prop ( ) sep ( )\nend\n",
+            false,
+        ),
+        (
+            b"pred p\n( a : int ) case prop ( ) sep ( ) case ex a : int ; prop ( ) sep ( )\nend\n",
+            true,
+        ),
+        (
+            b"pred p\n( a : int , a : int ) case prop ( ) sep ( )\nend\n",
+            true,
+        ),
+        (
+            b"spec f\nint f ( int a ) with a : int ; pre prop ( ) sep ( ) post ex b : int ; prop ( ) sep ( )\nend\n",
+            false,
+        ),
+        (
+            b"spec f\nint f ( void ) with a : int , a : val ; pre prop ( ) sep ( ) post prop ( ) sep ( )\nend\n",
+            true,
+        ),
+        (
+            b"spec f\nint f ( void ) with a : int ; pre prop ( ) sep ( ) post ex a : int ; prop ( ) sep ( )\nend\n",
+            true,
+        ),
+        (
+            b"spec f\nvoid f ( void ) with r : int ; pre prop ( ) sep ( ) post prop ( ) sep ( )\nend\n",
+            true,
+        ),
+        (
+            b"spec f\nint f ( void ) pre prop ( ) sep ( ) post ex r : val ; prop ( ) sep ( )\nend\n",
+            true,
+        ),
+    ];
+    for (text, hidden) in cases {
+        assert_eq!(rt; hides(rt.alloc(), text)?, Some(hidden));
     }
     Ok(())
 }
@@ -222,7 +279,8 @@ fn grouping(rt: HostRuntime) -> Result<(), Fail> {
         rt.alloc(),
         b"sub f\nname x = a - b - c * d * 2 ;\nif { skip ; } { skip ; skip ; } ;\nname y = [u, v] ;\nend\n",
     )?;
-    match parse_logic(rt.alloc(), &text) {
+    let read = parse_logic(rt.alloc(), &text);
+    match &read {
         Ok(LogicText::Sub(_, steps)) => match steps.as_slice() {
             [first, second, third] => {
                 assert_eq!(rt; (first.number, second.number, third.number), (1, 2, 6));

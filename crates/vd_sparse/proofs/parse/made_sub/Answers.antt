@@ -8,13 +8,13 @@ use Rattle.vd_sparse.specs.Sections.{AnswersKind}
 use Rattle.vd_sparse.specs.Whole.{front_answer}
 use Rattle.vd_sparse.proofs.parse.made_sub.Goals as goal
 
-pub returns-in-Ok-in-Ok : goal.returns-in-Ok-in-Ok
-returns-in-Ok-in-Ok c = λ text h.
-    let read : (ts : List Lexeme) (b : Bool) (end : ℕ) → IsCut ts b end (lexemes_of c.args.front.now.tokens.items) c.args.front.now.cause c.args.front.now.at → Answers ScriptSection ts b end (Ok c.in-Ok-in-Ok.found) = search rules in
-    subst (λ x. AnswersKind kind.Sub text (Ok (logic.Sub x c.in-Ok-in-Ok.found))) (sym c.in-Ok.ensures)
-    (front_answer kind.Sub text c.args.front.now.own.now (lexemes_of c.args.front.now.tokens.items) c.args.front.now.cause c.args.front.now.at (Ok c.in-Ok-in-Ok.found) h read)
+pub returns-in-Ok-read_script : goal.returns-in-Ok-read_script
+returns-in-Ok-read_script c = λ text h.
+    let read : (ts : List Lexeme) (b : Bool) (end : ℕ) → IsCut ts b end (lexemes_of c.args.front.now.tokens.items) c.args.front.now.cause c.args.front.now.at → Answers ScriptSection ts b end (Ok c.in-Ok-read_script.found) = search rules in
+    subst (λ x. AnswersKind kind.Sub text (Ok (logic.Sub x c.in-Ok-read_script.found))) (sym c.in-Ok.ensures)
+    (front_answer kind.Sub text c.args.front.now.own.now (lexemes_of c.args.front.now.tokens.items) c.args.front.now.cause c.args.front.now.at (Ok c.in-Ok-read_script.found) h read)
 
-pub returns-in-Err-in-Ok : goal.returns-in-Err-in-Ok
-returns-in-Err-in-Ok c = λ text h.
-    let read : (ts : List Lexeme) (b : Bool) (end : ℕ) → IsCut ts b end (lexemes_of c.args.front.now.tokens.items) c.args.front.now.cause c.args.front.now.at → Answers ScriptSection ts b end (Err c.in-Err-in-Ok.fault) = search rules in
-    front_answer kind.Sub text c.args.front.now.own.now (lexemes_of c.args.front.now.tokens.items) c.args.front.now.cause c.args.front.now.at (Err c.in-Err-in-Ok.fault) h read
+pub returns-in-Err-read_script : goal.returns-in-Err-read_script
+returns-in-Err-read_script c = λ text h.
+    let read : (ts : List Lexeme) (b : Bool) (end : ℕ) → IsCut ts b end (lexemes_of c.args.front.now.tokens.items) c.args.front.now.cause c.args.front.now.at → Answers ScriptSection ts b end (Err c.in-Err-read_script.fault) = search rules in
+    front_answer kind.Sub text c.args.front.now.own.now (lexemes_of c.args.front.now.tokens.items) c.args.front.now.cause c.args.front.now.at (Err c.in-Err-read_script.fault) h read
