@@ -7,6 +7,8 @@ ghost use Rattle.vd_outline.specs.declared.outline.TextKind.TheVariants as text_
 ghost use Rattle.vd_outline.specs.Fault.{IsBad};
 ghost use Rattle.vd_heads.specs.HeadPart as head_part;
 ghost use Rattle.vd_outline.specs.Outline.{Bytes, HasHead, IsSection, Outlines};
+ghost use Rattle.vd_heads.specs.declared.content.Content.TheVariants as content_kind;
+ghost use Rattle.vd_listing.specs.Listing.{IsCut};
 ghost use Rattle.vd_scopes.specs.Head as head;
 
 use vd_listing::names_in;
@@ -58,19 +60,20 @@ fn placed(alloc: Global, at: usize, names: List<Mention>) -> Result<List<Mention
     Ok(found)
 }
 
-fn mentions(alloc: Global, at: usize, text: &Text, exports: bool) -> Result<Content, AllocError>
-    ensures uses { (kind : Kind_of_text) (s : Section) → IsSection kind s → s.text ≡ text.now → exports ≡ false → IfOk result (head.Lists Content.Uses text.now at) }
-    ensures exports { (kind : Kind_of_text) (s : Section) → IsSection kind s → s.text ≡ text.now → exports ≡ true → IfOk result (head.Lists Content.Exports text.now at) }
+fn uses(alloc: Global, at: usize, text: &Text) -> Result<Content, AllocError>
+    ensures { (header content : Bytes) → IsCut text.now header content → IfOk result (head.Lists (λ names. content_kind.Uses names) text.now at) }
 {
     match names_in(alloc, text) {
-        Ok(names) => {
-            let names = placed(alloc, at, names)?;
-            if exports {
-                Ok(Content::Exports(names))
-            } else {
-                Ok(Content::Uses(names))
-            }
-        }
+        Ok(names) => Ok(Content::Uses(placed(alloc, at, names)?)),
+        Err(fault) => unread(at, fault),
+    }
+}
+
+fn exports(alloc: Global, at: usize, text: &Text) -> Result<Content, AllocError>
+    ensures { (header content : Bytes) → IsCut text.now header content → IfOk result (head.Lists (λ names. content_kind.Exports names) text.now at) }
+{
+    match names_in(alloc, text) {
+        Ok(names) => Ok(Content::Exports(placed(alloc, at, names)?)),
         Err(fault) => unread(at, fault),
     }
 }
@@ -104,7 +107,7 @@ fn content_of(alloc: Global, at: usize, section: &Section) -> Result<Content, Al
     ensures { (kind : Kind_of_text) → IsSection kind section.now → IfOk result (head.Says section.now.kind section.now.text at) }
 {
     match section.kind {
-        SectionKind::Exports => mentions(alloc, at, &section.text, true),
+        SectionKind::Exports => exports(alloc, at, &section.text),
         SectionKind::Struct | SectionKind::Global => declaration(alloc, at, &section.text),
         SectionKind::Abstract | SectionKind::Pred | SectionKind::Spec => {
             logic(alloc, at, &section.text)
@@ -114,7 +117,7 @@ fn content_of(alloc: Global, at: usize, section: &Section) -> Result<Content, Al
         | SectionKind::Fn
         | SectionKind::Script
         | SectionKind::Sub
-        | SectionKind::Init => mentions(alloc, at, &section.text, false),
+        | SectionKind::Init => uses(alloc, at, &section.text),
     }
 }
 
