@@ -67,7 +67,7 @@ fn first_failing(alloc: Global, view: &View<'_>) -> Result<Option<(u32, u8)>, Al
     if let Some(place) = first_disagreement(alloc, view, &sizes)? {
         return Ok(Some((place, 4)));
     }
-    match sizes.first_large(view) {
+    match sizes.first_large(alloc, view)? {
         Some(place) => Ok(Some((place, 5))),
         None => Ok(None),
     }
