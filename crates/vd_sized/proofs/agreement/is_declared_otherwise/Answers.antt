@@ -1,4 +1,4 @@
-use Rattle.std.proofs.Common.{◌≡◌, true, false, refl, sym, ◌∙◌}
+use Rattle.std.proofs.Common.{◌≡◌, true, false, get_or, refl, sym, ◌∙◌}
 use Rattle.std.proofs.lemmas.List.{get_or_default}
 use Rattle.vd_sized.specs.Agreement.{DiffersAt}
 use Rattle.vd_sized.proofs.Defining.{otherwise_in, none_otherwise}
@@ -9,7 +9,10 @@ no : false ≡ true → ⊥
 no e = cc
 
 pub returns-then-differs_at : goal.returns-then-differs_at
-returns-then-differs_at c = let d = c.differs_at.ensures in ?
+returns-then-differs_at c =
+    let xs = c.spots-spot-items.result.now in
+    (λ t. otherwise_in c.args.view.now.parts.now c.args.view.now.own c.args.content.now c.args.space c.args.name.now c.as_bytes.result.now xs c.requires.named c.as_bytes.ensures.value c.spots-spot-items.ensures
+        c.loop-spot.spot-index (get_or xs c.loop-spot.spot-index (record { part = 0; section = 0 })) c.loop-spot-test.true (get_or_default xs c.loop-spot.spot-index _ _ c.loop-spot-test.true) (c.differs_at.ensures.0 c.if-differs_at.true), λ w. refl)
 
 pub loop-spot-preserved : goal.loop-spot-preserved
 loop-spot-preserved c =
