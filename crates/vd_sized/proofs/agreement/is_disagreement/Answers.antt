@@ -1,4 +1,4 @@
-use Rattle.std.proofs.Common.{◌≡◌, true, sym, subst, IsTrue}
+use Rattle.std.proofs.Common.{true, sym, subst, IsTrue}
 use Rattle.std.specs.Prelude.{◌↔◌}
 use Rattle.vd_sized.specs.Agreement.{IsDisagreement}
 use Rattle.vd_sized.proofs.Judging.{spec_pre, spec_post}
