@@ -1,19 +1,18 @@
 -- Where each struct that is not counted waits for another, what waits has no cells.
-use Rattle.std.proofs.Common.{◌≡◌, ℕ, ◌+◌, ◌<◌, Bool, true, false, List, [], ◌∷◌, length, get_or, drop, Option, Some, None, refl, sym, ap, ◌∙◌, subst, inl, inr, ◌⊎◌, arith, suc, zero}
-use Rattle.std.specs.List.{All, Contains}
+use Rattle.std.proofs.Common.{◌≡◌, ℕ, true, false, List, None, sym, ap, ◌∙◌, subst, inl, inr}
+use Rattle.std.specs.List.{Contains}
 use Rattle.std.specs.Option.{is_some}
 use Rattle.std.proofs.lemmas.Option.{same_Some, none-some}
 use Rattle.vd_base.specs.declared.ctype.CType.{CType}
 use Rattle.vd_base.specs.declared.ctype.CType.TheVariants as typ
 use Rattle.vd_base.specs.declared.ctype.Field.{Field}
-use Rattle.vd_heads.specs.declared.content.Content.TheVariants as content
 use Rattle.vd_heads.specs.declared.table.Space.TheVariants as space
 use Rattle.vd_heads.specs.declared.view.View.{View}
 use Rattle.vd_heads.specs.Closure.{IsUnambiguous, Knows}
 use Rattle.vd_heads.specs.Held.{held}
 use Rattle.vd_sized.specs.Cells.{HasCells, HaveCells, is_one}
 use Rattle.vd_sized.specs.Cells as cells
-use Rattle.vd_sized.specs.Seen.{AreAllSeen, IsMeant, MeansStruct, Names}
+use Rattle.vd_sized.specs.Seen.{AreAllSeen, IsMeant, MeansStruct}
 use Rattle.vd_sized.specs.Sizes.{IsCounted, Settles, SomeWaits, Waits, kept}
 use Rattle.vd_sized.specs.Sizes as sized
 use Rattle.vd_sized.specs.declared.order.StructSeen.{StructSeen}
@@ -70,6 +69,6 @@ module _ (view : View) (old new : Sizes) (seen : List StructSeen) (single : IsUn
   settled name fields m none =
       let s = all.all name fields m in
       elim (settles.settled s.known s.stands) [
-        inl counted ↦ absurd (no_kept s.known.name.now name s.named counted none)
+        | inl counted ↦ absurd (no_kept s.known.name.now name s.named counted none)
         | inr waits ↦ subst (SomeWaits view new) (same_meaning s.known name fields s.named (meant_at s.known s.stands) m) waits
       ]

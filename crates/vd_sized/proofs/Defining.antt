@@ -1,19 +1,18 @@
 -- What a section defines for an interface, and what the interface declares.
-use Rattle.std.proofs.Common.{◌≡◌, ℕ, ◌+◌, ◌<◌, ◌≤◌, Bool, true, false, ◌&&◌, List, [], ◌∷◌, length, get_or, take, Option, Some, None, refl, sym, ap, ◌∙◌, subst, arith, IsTrue}
-use Rattle.std.specs.Prelude.{◌↔◌, not, option_map, slice_get}
+use Rattle.std.proofs.Common.{◌≡◌, ℕ, ◌<◌, Bool, true, false, ◌&&◌, List, length, get_or, Option, Some, None, refl, sym, ap, ◌∙◌, subst, IsTrue}
+use Rattle.std.specs.Prelude.{◌↔◌, not, option_map}
 use Rattle.std.specs.List.{Any}
 use Rattle.std.specs.Str.{bytes_eq}
 use Rattle.std.proofs.lemmas.Option.{same_Some, none-some}
 use Rattle.std.proofs.lemmas.Slice.Eq.{bytes_eq-Decides}
 use Rattle.vd_heads.specs.declared.content.Content.{Content}
 use Rattle.vd_heads.specs.declared.content.Content.TheVariants as content
-use Rattle.vd_heads.specs.declared.content.HeadSection.{HeadSection}
 use Rattle.vd_heads.specs.declared.content.Part.{Part}
 use Rattle.vd_heads.specs.declared.table.Space.{Space}
 use Rattle.vd_heads.specs.declared.table.Space.TheVariants as space
 use Rattle.vd_heads.specs.declared.table.Spot.{Spot}
 use Rattle.vd_heads.specs.Closure.{Exports}
-use Rattle.vd_heads.specs.Declaration.{Bytes, IsDeclared, IsSection, declares, same_space, section_at}
+use Rattle.vd_heads.specs.Declaration.{Bytes, IsDeclared, declares, same_space, section_at}
 use Rattle.vd_heads.specs.Views.{spots_of}
 use Rattle.vd_heads.proofs.Places.{declared_spot, spot_declared}
 use Rattle.vd_sized.specs.Agreement.{DiffersAt, IsOtherwise, Matches, MatchesAll}
@@ -129,5 +128,5 @@ module _ (parts : List Part) (own : ℕ) (c : Content) (k i : ℕ) where
       let at = map_some (λ s. s.content) (section_at parts k i) there e in
       let t = turned b (Matches c there) h in (
         λ d. record { section = at.0; exported = exported; stands = at.1; differs = subst (λ x. Matches c x → ⊥) at.2 (t.0 d) },
-        λ w. t.1 (subst (λ x. Matches c x → ⊥) (sym (at.2 ∙ ap (λ s. s.content) (same_Some at.0 w.section (sym at.1 ∙ w.stands)))) w.differs)
+        λ w. t.1 (subst (λ x. Matches c x → ⊥) (sym (at.2 ∙ ap (λ s. s.content) (same_Some at.0 w.section (sym at.1 ∙ w.stands)))) w.differs),
       )

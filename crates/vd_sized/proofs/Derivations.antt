@@ -1,5 +1,5 @@
 -- Cells by their derivations: where a name means one thing, a type has one list of cells.
-use Rattle.std.proofs.Common.{◌≡◌, ℕ, Bool, true, List, [], ◌∷◌, ◌++◌, refl, sym, ap, ap₂, ◌∙◌, subst, inl, inr, append-nil, append_assoc}
+use Rattle.std.proofs.Common.{◌≡◌, ℕ, true, List, [], ◌∷◌, ◌++◌, refl, sym, ap, ap₂, ◌∙◌, subst, inl, inr, append-nil, append_assoc}
 use Rattle.std.specs.List.{repeat}
 use Rattle.vd_base.specs.declared.ctype.CType.{CType}
 use Rattle.vd_base.specs.declared.ctype.CType.TheVariants as typ

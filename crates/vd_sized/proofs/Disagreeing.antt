@@ -1,7 +1,7 @@
 -- Disagreements, one label, assertion and section after another.
-use Rattle.std.proofs.Common.{◌≡◌, ℕ, zero, suc, ◌+◌, ◌<◌, ◌≤◌, Bool, true, false, not, drop, List, [], ◌∷◌, ◌++◌, length, get_or, take, Option, Some, None, refl, sym, ap, ◌∙◌, subst, inl, inr, ◌⊎◌, arith, IsTrue}
+use Rattle.std.proofs.Common.{◌≡◌, ℕ, zero, suc, ◌+◌, ◌<◌, ◌≤◌, Bool, true, false, not, drop, List, [], ◌∷◌, ◌++◌, length, get_or, take, refl, sym, ap, ◌∙◌, subst, inl, inr, ◌⊎◌, arith, IsTrue}
 use Rattle.std.specs.Prelude.{◌↔◌}
-use Rattle.std.specs.List.{Any, Contains, flat_map}
+use Rattle.std.specs.List.{Any, flat_map}
 use Rattle.std.proofs.lemmas.List.{append-nil, drop_more, take-append-drop, take_more, take_all}
 use Rattle.std.proofs.lemmas.List.Concat.{flat_map-append}
 use Rattle.std.proofs.lemmas.List.Elements.{Contains-append_cases, Contains-append_left, Contains-append_right, Contains-push_cases}
@@ -25,7 +25,7 @@ none_more P xs i x lt is n before w =
     let e : take (i + 1) xs ≡ take i xs ++ x ∷ [] = take_more xs i x lt ∙ ap (λ y. take i xs ++ y ∷ []) (sym is) in
     let v : Any P (take i xs ++ x ∷ []) = subst (Any P) e w in
     elim (Contains-push_cases (take i xs) x v.1 (v.0, v.2, v.3)) [
-      inl c ↦ before (c.0, v.1, c.1, c.2, v.4)
+      | inl c ↦ before (c.0, v.1, c.1, c.2, v.4)
       | inr same ↦ n (subst P (sym same) v.4)
     ]
 
@@ -46,7 +46,7 @@ module _ (parts : List Part) (own : ℕ) (label : Label) where
   pub misused_by : IsUnambiguous parts own → (c : Content) (b : Bool) → Means parts own space.Predicate label.name c → b ≡ takes (argument_sorts c) label.args → IsTrue (not b) ↔ IsMisused parts own label
   misused_by single c b m e = (
     λ t. record { declared = c; means = m; other = sym e ∙ fails b t },
-    λ w. holds b (e ∙ (ap (λ d. takes (argument_sorts d) label.args) (single space.Predicate label.name c w.declared m w.means) ∙ w.other))
+    λ w. holds b (e ∙ (ap (λ d. takes (argument_sorts d) label.args) (single space.Predicate label.name c w.declared m w.means) ∙ w.other)),
   )
 
   pub misused_nowhere : ((c : Content) → Means parts own space.Predicate label.name c → ⊥) → IsTrue false ↔ IsMisused parts own label

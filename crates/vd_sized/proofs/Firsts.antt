@@ -1,17 +1,17 @@
 -- The smallest place in a walk over sections.
-use Rattle.std.proofs.Common.{◌≡◌, ℕ, zero, suc, ◌+◌, ◌<◌, ◌≤◌, min, List, [], ◌∷◌, ◌++◌, length, get_or, take, Option, Some, None, refl, sym, ap, ◌∙◌, subst, inl, inr, arith}
+use Rattle.std.proofs.Common.{◌≡◌, ℕ, ◌+◌, ◌<◌, ◌≤◌, min, List, [], ◌∷◌, ◌++◌, length, get_or, take, Option, Some, None, refl, sym, ap, ◌∙◌, subst, inl, inr, arith}
 use Rattle.std.specs.Prelude.{slice_get, max}
 use Rattle.std.specs.List.{All, Contains}
 use Rattle.std.specs.Option.{option_and_then}
 use Rattle.std.proofs.lemmas.Bool.{cases_lt}
-use Rattle.std.proofs.lemmas.List.{take_more, take_all, length-append}
+use Rattle.std.proofs.lemmas.List.{take_more, take_all}
 use Rattle.std.proofs.lemmas.List.Elements.{All-push, Contains-append_left, Contains-push, Contains-push_cases}
 use Rattle.std.proofs.lemmas.Option.{none-some}
 use Rattle.vd_heads.specs.declared.content.Content.{Content}
 use Rattle.vd_heads.specs.declared.content.Content.TheVariants as content
 use Rattle.vd_heads.specs.declared.content.HeadSection.{HeadSection}
 use Rattle.vd_heads.specs.declared.content.Part.{Part}
-use Rattle.vd_heads.specs.Declaration.{section_at, sections_in}
+use Rattle.vd_heads.specs.Declaration.{sections_in}
 use Rattle.vd_heads.specs.Least.{IsLeastOrNone, IsPlaceOf, lesser}
 use Rattle.vd_sized.specs.Sizes.{HasEnough}
 use Rattle.vd_sized.proofs.Seeing.{slice_get_at, at_slice_get}
@@ -39,7 +39,7 @@ module _ (P : Content → Type 0) (hs : List HeadSection) (i : ℕ) (h : HeadSec
   -- what stands among one more stands before, or is the one more
   either : {X : Type 0} (at : ℕ) → StandsAt P (take i hs ++ h ∷ []) at → (StandsAt P (take i hs) at → X) → (P h.content → at ≡ h.place → X) → X
   either at f before here = elim (Contains-push_cases (take i hs) h f.section f.stands) [
-    inl c ↦ before (record { section = f.section; stands = c; holds = f.holds; place_is = f.place_is })
+    | inl c ↦ before (record { section = f.section; stands = c; holds = f.holds; place_is = f.place_is })
     | inr e ↦ here (subst (λ x. P x.content) (sym e) f.holds) (f.place_is ∙ ap (λ x. x.place) (sym e))
   ]
 
@@ -51,10 +51,10 @@ module _ (P : Content → Type 0) (hs : List HeadSection) (i : ℕ) (h : HeadSec
   added None p before = (this p, λ at f. either at f (λ g. absurd (before at g)) (λ q e. omega arith))
   added (Some place) p before = (
     elim (cases_lt place h.place) [
-      inl less ↦ subst (StandsAt P (take i hs ++ h ∷ [])) (lower less) (earlier place before.0)
+      | inl less ↦ subst (StandsAt P (take i hs ++ h ∷ [])) (lower less) (earlier place before.0)
       | inr more ↦ subst (StandsAt P (take i hs ++ h ∷ [])) (higher more) (this p)
     ],
-    λ at f. either at f (λ g. below at (before.1 at g)) (λ q e. beyond at e)
+    λ at f. either at f (λ g. below at (before.1 at g)) (λ q e. beyond at e),
   ) where
     lower : place < h.place → place ≡ min place h.place
     lower l = omega arith

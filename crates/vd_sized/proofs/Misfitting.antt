@@ -1,5 +1,5 @@
 -- Initial values that do not fit, by the first cells.
-use Rattle.std.proofs.Common.{◌≡◌, ℕ, zero, suc, ◌+◌, ◌<◌, ◌≤◌, Bool, true, false, min, List, [], ◌∷◌, ◌++◌, length, take, map, refl, sym, ap, ◌∙◌, subst, inl, inr, arith, IsTrue, Bor}
+use Rattle.std.proofs.Common.{◌≡◌, ℕ, zero, suc, ◌<◌, ◌≤◌, Bool, true, false, min, List, [], ◌∷◌, length, take, map, refl, sym, ap, ◌∙◌, subst, inl, inr, arith, IsTrue, Bor}
 use Rattle.std.specs.Prelude.{◌↔◌}
 use Rattle.std.proofs.lemmas.List.{length-map, length-take}
 use Rattle.vd_base.specs.declared.ctype.CType.{CType, CType-F, out-CType, out-roll-CType}
@@ -48,7 +48,7 @@ module _ (parts : List Part) (own : ℕ) (single : IsUnambiguous parts own) (nam
   pub other_by : (c : Content) (b : Bool) → Means parts own space.Global name c → IsTrue b ↔ IsOther c to → IsTrue b ↔ IsOtherPointer parts own name (typ.Pointer to)
   other_by c b m h = (
     λ t. other_from c m (h.0 t),
-    λ w. h.1 (subst (λ x. IsOther x to) (single space.Global name (content.Global w.global w.values) c w.means m) (subst (IsOther (content.Global w.global w.values)) (sym (same_pointer to w.to w.pointer)) w.differs))
+    λ w. h.1 (subst (λ x. IsOther x to) (single space.Global name (content.Global w.global w.values) c w.means m) (subst (IsOther (content.Global w.global w.values)) (sym (same_pointer to w.to w.pointer)) w.differs)),
   )
 
   pub other_nowhere : ((c : Content) → Means parts own space.Global name c → ⊥) → IsTrue false ↔ IsOtherPointer parts own name (typ.Pointer to)
@@ -89,7 +89,7 @@ module _ (parts : List Part) (own : ℕ) where
     all_fit single enough fit w =
         let same : w.cells ≡ h.cells = same_cells parts own single w.are h.have in
         elim w.misfit [
-          inl lt ↦ omega (arith, long, lt, ap length same)
+          | inl lt ↦ omega (arith, long, lt, ap length same)
           | inr u ↦ fit (subst (AreUnfit parts own values) (sym h.counts.first) (down most values h.cells le (subst (AreUnfit parts own values) same u)))
         ]
 

@@ -1,5 +1,5 @@
 -- Two lists that are walked together.
-use Rattle.std.proofs.Common.{◌≡◌, ℕ, zero, suc, Bor, Option, Some, None, ◌+◌, ◌<◌, ◌≤◌, List, [], ◌∷◌, length, get_or, drop, map, refl, sym, ap, ◌∙◌, subst, inl, inr, ◌⊎◌, arith}
+use Rattle.std.proofs.Common.{◌≡◌, ℕ, zero, suc, Bor, Some, None, ◌+◌, ◌<◌, ◌≤◌, List, [], ◌∷◌, length, get_or, drop, map, refl, sym, ap, ◌∙◌, subst, inl, inr, ◌⊎◌, arith}
 use Rattle.std.specs.Prelude.{◌↔◌, slice_get}
 use Rattle.std.proofs.lemmas.List.{drop_more, drop_all, get_or-map, length-map}
 use Rattle.std.proofs.lemmas.Option.{none-some}
@@ -41,7 +41,7 @@ module _ (fs gs rest : List Field) (i : ℕ) (f : Field) (lt : i < length fs) (i
   pub types_on : (g : Field) (others : List Field) → rest ≡ g ∷ others → f.typ ≡ g.typ → SameTypes fs gs ↔ SameTypes (drop (i + 1) fs) others
   types_on g others e same = (
     λ h. (head_types f g (drop (i + 1) fs) others (both SameTypes _ _ _ _ (left fs i f lt is) e (so_far.0 h))).1,
-    λ h. so_far.1 (both SameTypes _ _ _ _ (sym (left fs i f lt is)) (sym e) (cons_types f g (drop (i + 1) fs) others same h))
+    λ h. so_far.1 (both SameTypes _ _ _ _ (sym (left fs i f lt is)) (sym e) (cons_types f g (drop (i + 1) fs) others same h)),
   )
 
   pub types_differ : (g : Field) (others : List Field) → rest ≡ g ∷ others → (f.typ ≡ g.typ → ⊥) → SameTypes fs gs → ⊥
@@ -73,7 +73,7 @@ module _ (parts : List Part) (own : ℕ) where
     pub unfit_on : (t : CType) (others : List CType) → rest ≡ t ∷ others → (IsUnfit parts own v t → ⊥) → U vs ts ↔ U (drop (i + 1) vs) others
     unfit_on t others e fit = (
       λ h. elim (unfit_head v (drop (i + 1) vs) t others (both U _ _ _ _ (left vs i v lt is) e (so_far.0 h))) [ inl here ↦ absurd (fit here) | inr later ↦ later ],
-      λ h. so_far.1 (both U _ _ _ _ (sym (left vs i v lt is)) (sym e) (initial.there h))
+      λ h. so_far.1 (both U _ _ _ _ (sym (left vs i v lt is)) (sym e) (initial.there h)),
     )
 
     pub unfit_nowhere : rest ≡ [] → U vs ts → ⊥

@@ -1,9 +1,9 @@
 -- The structs that a part sees, section after section and part after part.
-use Rattle.std.proofs.Common.{◌≡◌, ℕ, zero, suc, ◌+◌, ◌<◌, ◌≤◌, Bool, true, false, List, [], ◌∷◌, ◌++◌, length, get_or, take, Option, Some, None, refl, sym, ap, ◌∙◌, subst, inl, inr, ◌⊎◌, arith}
-use Rattle.std.specs.Prelude.{◌↔◌, slice_get, MatchOption, OnOk, Result, Ok, Err}
+use Rattle.std.proofs.Common.{◌≡◌, ℕ, zero, suc, ◌+◌, ◌<◌, ◌≤◌, true, false, List, [], ◌∷◌, ◌++◌, length, get_or, take, Option, Some, None, refl, sym, ap, ◌∙◌, subst, inl, inr, arith}
+use Rattle.std.specs.Prelude.{slice_get, MatchOption, OnOk, Result, Ok, Err}
 use Rattle.std.specs.List.{All, Contains}
 use Rattle.std.specs.Option.{option_and_then}
-use Rattle.std.proofs.lemmas.List.{get_or_append_left, get_or_at, length-append, take_more, take_all}
+use Rattle.std.proofs.lemmas.List.{get_or_append_left, get_or_at, length-append, take_more}
 use Rattle.std.proofs.lemmas.List.Elements.{All-push, Contains-append_left, Contains-push, Contains-push_cases}
 use Rattle.std.proofs.lemmas.Bool.{cases_lt}
 use Rattle.std.proofs.lemmas.Option.{same_Some, none-some}
@@ -17,7 +17,7 @@ use Rattle.vd_heads.specs.declared.table.Space.TheVariants as space
 use Rattle.vd_heads.specs.declared.view.View.{View}
 use Rattle.vd_heads.specs.Closure.{Means, Reaches}
 use Rattle.vd_heads.specs.Closure as closure
-use Rattle.vd_heads.specs.Declaration.{Bytes, IsSection, declares, section_at}
+use Rattle.vd_heads.specs.Declaration.{Bytes, IsSection, declares}
 use Rattle.vd_sized.specs.Seen.{AreAdded, AreAllSeen, AreOpen, AreSeenBefore, HasOpened, IsMeant, IsNoStruct, IsNotMeant, IsStruct, MeansStruct, Names}
 use Rattle.vd_sized.specs.declared.order.Open.{Open}
 use Rattle.vd_sized.specs.declared.order.StructSeen.{StructSeen}
@@ -93,7 +93,7 @@ none_open view k d lt = absurd (omega arith)
 pub last_open : (view : View) (rest : List Open) (o : Open) (all : List Open) → all ≡ rest ++ o ∷ [] → AreOpen view all → AreOpen view rest × IsMeant view o.known
 last_open view rest o all e h = (
   λ k d lt. subst (λ x. IsMeant view x.known) (get_or_append_left rest (o ∷ []) d k lt) (whole k d (omega (arith, lt, length-append rest (o ∷ [])))),
-  subst (λ x. IsMeant view x.known) (get_or_at rest o [] o (length rest) refl) (whole (length rest) o (omega (arith, length-append rest (o ∷ []))))
+  subst (λ x. IsMeant view x.known) (get_or_at rest o [] o (length rest) refl) (whole (length rest) o (omega (arith, length-append rest (o ∷ [])))),
 ) where
   whole : AreOpen view (rest ++ o ∷ [])
   whole = subst (AreOpen view) e h
@@ -144,7 +144,7 @@ added_more view sections i h old mid new lt is a b =
       meant = b.meant;
       kept = λ s c. b.kept s (a.kept s c);
       added = λ g name fields others at e m. elim (Contains-push_cases (take i sections) h g at) [
-        inl before ↦ names_kept mid new name b.kept (a.added g name fields others before e m)
+        | inl before ↦ names_kept mid new name b.kept (a.added g name fields others before e m)
         | inr same ↦ b.added g name fields others (subst (Contains (h ∷ [])) same (here h)) e m
       ];
     })
@@ -170,7 +170,7 @@ module _ (view : View) (n : ℕ) (p : Part) (old : List StructSeen) (lt : n < le
   part_seen new a = record {
     meant = a.meant;
     all = λ k i h name fields others below r s e m. elim (cases_lt k n) [
-      inl less ↦ names_kept old new name a.kept (before.all k i h name fields others less r s e m)
+      | inl less ↦ names_kept old new name a.kept (before.all k i h name fields others less r s e m)
       | inr same ↦ a.added h name fields others (section_in k i h (omega arith) s) e m
     ];
   }
@@ -179,7 +179,7 @@ module _ (view : View) (n : ℕ) (p : Part) (old : List StructSeen) (lt : n < le
   part_unseen u = record {
     meant = before.meant;
     all = λ k i h name fields others below r s e m. elim (cases_lt k n) [
-      inl less ↦ before.all k i h name fields others less r s e m
+      | inl less ↦ before.all k i h name fields others less r s e m
       | inr same ↦ absurd (u (subst (Reaches view.parts.now view.own) (equal k below same) r))
     ];
   } where

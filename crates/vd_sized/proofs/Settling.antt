@@ -1,6 +1,6 @@
 -- Sizes, one struct after another.
-use Rattle.std.proofs.Common.{◌≡◌, ℕ, ◌+◌, ◌<◌, ◌≤◌, Bool, true, false, cond, List, [], ◌∷◌, ◌++◌, length, get_or, take, Option, Some, None, refl, sym, ap, ◌∙◌, subst, inl, inr, ◌⊎◌, arith, min, ltb, IsTrue, zero, suc}
-use Rattle.std.specs.Prelude.{◌↔◌, MatchOption, MatchBool}
+use Rattle.std.proofs.Common.{◌≡◌, ℕ, ◌+◌, ◌<◌, ◌≤◌, Bool, true, false, cond, List, [], ◌∷◌, ◌++◌, length, get_or, take, Option, Some, None, refl, sym, ap, ◌∙◌, subst, inl, inr, ◌⊎◌, arith, ltb, IsTrue, zero, suc}
+use Rattle.std.specs.Prelude.{◌↔◌, MatchOption}
 use Rattle.std.specs.List.{All, Contains, repeat}
 use Rattle.std.specs.BTreeMap.{is_at}
 use Rattle.std.specs.Cmp.Lexicographic.{slice_cmp}
@@ -8,7 +8,7 @@ use Rattle.std.specs.Map.{lookup}
 use Rattle.std.specs.Option.{is_some}
 use Rattle.std.specs.Ordering.{nat_cmp}
 use Rattle.std.specs.Str.{bytes_eq}
-use Rattle.std.proofs.lemmas.List.{length-append, take_more, take_all}
+use Rattle.std.proofs.lemmas.List.{length-append, take_more}
 use Rattle.std.proofs.lemmas.List.Elements.{All-push, Contains-append_left, Contains-push, Contains-push_cases}
 use Rattle.std.proofs.lemmas.Option.{same_Some, none-some}
 use Rattle.std.proofs.lemmas.Slice.Eq.{bytes_eq-Decides}
@@ -145,7 +145,7 @@ module _ (view : View) (old mid new : Sizes) (waiting left : List StructSeen) (s
     grows = λ n h. step.grows n (p.grows n h);
     meant = p.meant;
     rest = λ x h. elim (Contains-push_cases waiting s x h) [
-      inl before ↦ elim (p.rest x before) [ inl counted ↦ inl (step.grows x.name.now counted) | inr stays ↦ inr stays ]
+      | inl before ↦ elim (p.rest x before) [ inl counted ↦ inl (step.grows x.name.now counted) | inr stays ↦ inr stays ]
       | inr same ↦ inl (subst (λ y. IsCounted new y.name.now) same step.which)
     ];
     shorter = omega (arith, long, p.shorter);
@@ -159,7 +159,7 @@ module _ (view : View) (old mid new : Sizes) (waiting left : List StructSeen) (s
     grows = λ n h. step.grows n (p.grows n h);
     meant = All-push (IsMeant view) left s p.meant meant;
     rest = λ x h. elim (Contains-push_cases waiting s x h) [
-      inl before ↦ elim (p.rest x before) [ inl counted ↦ inl (step.grows x.name.now counted) | inr stays ↦ inr (Contains-append_left left (s ∷ []) x stays) ]
+      | inl before ↦ elim (p.rest x before) [ inl counted ↦ inl (step.grows x.name.now counted) | inr stays ↦ inr (Contains-append_left left (s ∷ []) x stays) ]
       | inr same ↦ inr (subst (λ y. Contains (left ++ s ∷ []) y) same (Contains-push left s))
     ];
     shorter = omega (arith, long, p.shorter, length-append left (s ∷ []));
@@ -193,7 +193,7 @@ module _ (view : View) (old now new : Sizes) (seen waiting left : List StructSee
     counted = p.counted;
     most = p.most ∙ so_far.most;
     settled = λ s h. elim (settling_goes_on.rest s h) [
-      inl counted ↦ inl counted
+      | inl counted ↦ inl counted
       | inr stays ↦ inr (subst (λ x. SomeWaits view new x.fields.now) stays.2 (p.still e stays.0 s stays.1))
     ];
   }
@@ -210,7 +210,7 @@ module _ (H : List CType → Type 0) (one : (ts us : List CType) → H ts → H 
   pub is_over : (b : Bool) → b ≡ ltb most_cells c.count → IsTrue b ↔ ((ts : List CType) → H ts → length ts ≤ most_cells → ⊥)
   is_over b e = (
     λ t. over ((Decides-ltb most_cells c.count).0 (sym e ∙ t)),
-    λ n. elim (cases_lt most_cells c.count) [ inl lt ↦ e ∙ (Decides-ltb most_cells c.count).1 lt | inr le ↦ absurd (not_over le n) ]
+    λ n. elim (cases_lt most_cells c.count) [ inl lt ↦ e ∙ (Decides-ltb most_cells c.count).1 lt | inr le ↦ absurd (not_over le n) ],
   )
 
 -- ---- one struct more in a pass

@@ -1,5 +1,5 @@
 -- The sort of a term, by its outermost layer.
-use Rattle.std.proofs.Common.{◌≡◌, ◌<◌, ◌+◌, ℕ, ℤ, Bool, true, false, cond, ◌&&◌, List, [], ◌∷◌, length, drop, get_or, map, Option, Some, None, refl, sym, ap, ◌∙◌, arith}
+use Rattle.std.proofs.Common.{◌≡◌, ◌<◌, ◌+◌, ℕ, ℤ, Bool, true, false, cond, ◌&&◌, List, [], ◌∷◌, length, drop, get_or, map, Some, None, sym, ap, ◌∙◌, arith}
 use Rattle.std.proofs.lemmas.List.{drop_more, get_or-map, length-map}
 use Rattle.vd_base.specs.declared.name.Name.{Name}
 use Rattle.vd_logic.specs.declared.term.Op.{Op}
@@ -7,7 +7,7 @@ use Rattle.vd_logic.specs.declared.term.Sort.{Sort}
 use Rattle.vd_logic.specs.declared.term.Sort.TheVariants as sort
 use Rattle.vd_logic.specs.declared.term.Term.{Term, Num, Var, Named, Global, App}
 use Rattle.vd_logic.specs.Layers.{fold-Num, fold-Var, fold-Named, fold-Global, fold-App}
-use Rattle.vd_sized.specs.Sorts.{are_sorts, is_sort, same_sort, signature, sort_layer, sort_of}
+use Rattle.vd_sized.specs.Sorts.{are_sorts, is_sort, signature, sort_layer, sort_of}
 
 pub sort_of-Num : (n : ℤ) → sort_of (Num n) ≡ Some sort.Int
 unfolding sort_of

@@ -2,7 +2,7 @@
 use Rattle.std.proofs.Common.{◌≡◌, ℕ, zero, suc, ◌+◌, ◌*◌, ◌<◌, ◌≤◌, min, ◌-◌, inl, inr, List, [], ◌∷◌, ◌++◌, length, take, get_or, map, refl, sym, ap, ◌∙◌, arith, append-nil, append_assoc, add-one}
 use Rattle.std.specs.List.{repeat}
 use Rattle.std.proofs.lemmas.Bool.{cases_lt}
-use Rattle.std.proofs.lemmas.List.{map-append, length-append, length-take, take_all, take-append-le, take_more, take-take, take-map, get_or_read}
+use Rattle.std.proofs.lemmas.List.{map-append, length-append, length-take, take_all, take-append-le, take_more, take-take}
 
 pub take_take_append : {X : Type 0} (m : ℕ) (ys zs : List X) → take m (take m ys ++ zs) ≡ take m (ys ++ zs)
 take_take_append zero ys zs = refl

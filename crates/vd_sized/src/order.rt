@@ -97,10 +97,7 @@ fn add_structs<'a>(
 }
 
 /// All structs that a part sees, one as often as its name is declared.
-pub fn structs_seen<'a>(
-    alloc: Global,
-    view: &View<'a>,
-) -> Result<List<StructSeen<'a>>, AllocError>
+pub fn structs_seen<'a>(alloc: Global, view: &View<'a>) -> Result<List<StructSeen<'a>>, AllocError>
     requires { IsView view.now }
     ensures { IfOk result (AreAllSeen view.now) }
 {
@@ -115,11 +112,7 @@ pub fn structs_seen<'a>(
 
 impl<'a> Order<'a> {
     /// Opens a struct that has not been met.
-    fn meet(
-        &mut self,
-        known: StructSeen<'a>,
-        stack: &mut List<Open<'a>>,
-    ) -> Result<(), AllocError>
+    fn meet(&mut self, known: StructSeen<'a>, stack: &mut List<Open<'a>>) -> Result<(), AllocError>
         ensures stack { OnOk result (HasOpened known.entry stack.old stack.new) }
         ensures structs { self.new.structs ≡ self.old.structs }
     {
@@ -184,10 +177,7 @@ impl<'a> Order<'a> {
 }
 
 /// Structs that a part sees, each once, and mostly behind those that it holds by value.
-pub fn struct_order<'a>(
-    alloc: Global,
-    view: &View<'a>,
-) -> Result<List<StructSeen<'a>>, AllocError>
+pub fn struct_order<'a>(alloc: Global, view: &View<'a>) -> Result<List<StructSeen<'a>>, AllocError>
     requires { IsView view.now }
     ensures { IfOk result (All (IsMeant view.now)) }
 {

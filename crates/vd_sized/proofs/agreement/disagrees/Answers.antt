@@ -1,4 +1,4 @@
-use Rattle.std.proofs.Common.{◌≡◌, sym, ◌∙◌, subst, IsTrue}
+use Rattle.std.proofs.Common.{sym, ◌∙◌, subst, IsTrue}
 use Rattle.std.specs.Prelude.{◌↔◌}
 use Rattle.std.specs.List.{Any, flat_map}
 use Rattle.vd_heads.specs.Assertions.{item_labels}

@@ -9,7 +9,7 @@ no e = cc
 
 pub loop-section-preserved : goal.loop-section-preserved
 loop-section-preserved c = elim c.if-branch.branch [
-  then-branch w ↦ add (IsDisagreement c.args.view.now.parts.now c.args.view.now.own) c.sections-section-items.result.now c.loop-section.section-index c.section-item.result c.loop-section-test.true c.section-item.is
+  | then-branch w ↦ add (IsDisagreement c.args.view.now.parts.now c.args.view.now.own) c.sections-section-items.result.now c.loop-section.section-index c.section-item.result c.loop-section-test.true c.section-item.is
       c.loop-section.first c.if-branch.first (c.in_ok-is_disagreement.ensures.0 w.if-branch.true) (w.first-is ∙ w.least-first.ensures) c.loop-section.invariant
   | else-branch w ↦ skip (IsDisagreement c.args.view.now.parts.now c.args.view.now.own) c.sections-section-items.result.now c.loop-section.section-index c.section-item.result c.loop-section-test.true c.section-item.is
       c.loop-section.first c.if-branch.first (λ p. no (sym w.if-branch.false ∙ c.in_ok-is_disagreement.ensures.1 p)) w.first-is c.loop-section.invariant

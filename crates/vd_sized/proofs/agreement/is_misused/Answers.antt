@@ -1,5 +1,5 @@
-use Rattle.std.proofs.Common.{◌≡◌, ap, ◌∙◌}
-use Rattle.vd_sized.specs.Agreement.{argument_sorts, takes}
+use Rattle.std.proofs.Common.{ap, ◌∙◌}
+use Rattle.vd_sized.specs.Agreement.{takes}
 use Rattle.vd_sized.proofs.Disagreeing.{misused_by, misused_nowhere}
 use Rattle.vd_sized.proofs.agreement.is_misused.Goals as goal
 

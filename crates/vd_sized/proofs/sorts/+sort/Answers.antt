@@ -1,6 +1,6 @@
-use Rattle.std.proofs.Common.{◌≡◌, [], length, get_or, rules, sym, ap, ◌∙◌, true, false, arith}
+use Rattle.std.proofs.Common.{length, get_or, rules, ap, ◌∙◌, true, false, arith}
 use Rattle.std.proofs.lemmas.List.{nil_from_length}
-use Rattle.vd_sized.specs.Sorts.{are_sorts, is_sort, sort_of}
+use Rattle.vd_sized.specs.Sorts.{is_sort}
 use Rattle.vd_sized.proofs.SortLaws.{sort_of-Num, sort_of-Var, sort_of-Named, sort_of-Global, application, fits_on, fits_not, one_too_many}
 use Rattle.vd_sized.proofs.sorts.+sort.Goals as goal
 
@@ -28,16 +28,16 @@ pub have_sorts-returns-then-not-is_sort : goal.have_sorts-returns-then-not-is_so
 have_sorts-returns-then-not-is_sort t c =
     let e = c.as_slice-term-items.ensures in
     fits_not c.args.terms.now c.loop-term.term-index c.term-item.result (omega (arith, ap length e)) (c.term-item.is ∙ ap (λ xs. get_or xs c.loop-term.term-index c.term-item.result) e)
-        c.loop-term.rest.now c.in-Some.others.now c.in-Some.sort.now _ c.in-Some.ensures.cases.0 (c.if-not-is_sort.ensures ∙ ap (λ s. is_sort s c.in-Some.sort.now) c.sort_of.ensures) c.loop-term.invariant
+    c.loop-term.rest.now c.in-Some.others.now c.in-Some.sort.now _ c.in-Some.ensures.cases.0 (c.if-not-is_sort.ensures ∙ ap (λ s. is_sort s c.in-Some.sort.now) c.sort_of.ensures) c.loop-term.invariant
 
 pub have_sorts-returns-in-None : goal.have_sorts-returns-in-None
 have_sorts-returns-in-None t c =
     let e = c.as_slice-term-items.ensures in
     one_too_many c.args.terms.now c.loop-term.term-index c.term-item.result (omega (arith, ap length e)) (c.term-item.is ∙ ap (λ xs. get_or xs c.loop-term.term-index c.term-item.result) e)
-        c.loop-term.rest.now _ (nil_from_length c.loop-term.rest.now c.in-None.ensures.cases) c.loop-term.invariant
+    c.loop-term.rest.now _ (nil_from_length c.loop-term.rest.now c.in-None.ensures.cases) c.loop-term.invariant
 
 pub have_sorts-loop-term-preserved : goal.have_sorts-loop-term-preserved
 have_sorts-loop-term-preserved t c =
     let e = c.as_slice-term-items.ensures in
     fits_on c.args.terms.now c.loop-term.term-index c.term-item.result (omega (arith, ap length e)) (c.term-item.is ∙ ap (λ xs. get_or xs c.loop-term.term-index c.term-item.result) e)
-        c.loop-term.rest.now c.in-Some.others.now c.in-Some.sort.now _ c.in-Some.ensures.cases.0 (c.if-not-is_sort.ensures ∙ ap (λ s. is_sort s c.in-Some.sort.now) c.sort_of.ensures) c.loop-term.invariant
+    c.loop-term.rest.now c.in-Some.others.now c.in-Some.sort.now _ c.in-Some.ensures.cases.0 (c.if-not-is_sort.ensures ∙ ap (λ s. is_sort s c.in-Some.sort.now) c.sort_of.ensures) c.loop-term.invariant

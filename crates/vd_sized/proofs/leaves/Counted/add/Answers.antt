@@ -1,5 +1,3 @@
-use Rattle.std.proofs.Common.{◌≡◌, ◌+◌, min, ◌∙◌, arith}
-use Rattle.vd_base.specs.Layout.{most_cells}
 use Rattle.vd_sized.proofs.Counting.{counts_add}
 use Rattle.vd_sized.proofs.leaves.Counted.add.Goals as goal
 

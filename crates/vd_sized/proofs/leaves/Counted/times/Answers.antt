@@ -1,4 +1,4 @@
-use Rattle.std.proofs.Common.{◌≡◌, ◌*◌, ◌+◌, min, take, ap, sym, ◌∙◌, arith}
+use Rattle.std.proofs.Common.{◌≡◌, ◌*◌, ◌+◌, min, take, ap, ◌∙◌, arith}
 use Rattle.std.specs.List.{repeat}
 use Rattle.vd_base.specs.Layout.{most_cells}
 use Rattle.vd_sized.proofs.Taking.{again, not_again}
@@ -8,7 +8,7 @@ use Rattle.vd_sized.proofs.leaves.Counted.times.Goals.{then-len-most+in_ok-put_a
 
 pub loop-preserved : goal.loop-preserved
 loop-preserved c = elim c.if-len-most.branch [
-  then-len-most+in_ok-put_all w ↦ w.first-is ∙ again c.args.most c.loop.counter c.args.self.now.first c.loop.first w.put_all.new.first c.loop.invariant w.in_ok-put_all.ensures
+  | then-len-most+in_ok-put_all w ↦ w.first-is ∙ again c.args.most c.loop.counter c.args.self.now.first c.loop.first w.put_all.new.first c.loop.invariant w.in_ok-put_all.ensures
   | else-len-most w ↦ w.first-is ∙ not_again c.args.most c.loop.counter c.args.self.now.first c.loop.first c.loop.invariant (omega arith)
 ]
 

@@ -21,4 +21,4 @@ returns-in-Some-struct_meant-clause-structs c = always c.meet.result (subst (All
 pub returns-in-Some-struct_meant-clause-stack : goal.returns-in-Some-struct_meant-clause-stack
 returns-in-Some-struct_meant-clause-stack c =
     on_ok c.meet.result (λ h. opened c.args.view.now c.in-Some-struct_meant.known c.push-2.new.self c.meet.new.stack
-        (one_open c.args.view.now c.args.stack.now c.push-2.new.self _ c.requires.stack c.requires.at c.in_ok-push.ensures.ok) c.in-Some-struct_meant.ensures.1 h) c.meet.ensures.stack
+    (one_open c.args.view.now c.args.stack.now c.push-2.new.self _ c.requires.stack c.requires.at c.in_ok-push.ensures.ok) c.in-Some-struct_meant.ensures.1 h) c.meet.ensures.stack

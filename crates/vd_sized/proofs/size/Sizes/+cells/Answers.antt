@@ -1,4 +1,4 @@
-use Rattle.std.proofs.Common.{◌≡◌, subst}
+use Rattle.std.proofs.Common.{subst}
 use Rattle.vd_sized.specs.Cells.{HasCells}
 use Rattle.vd_sized.specs.Counts.{CountsSome}
 use Rattle.vd_sized.specs.Sizes.{Waits}

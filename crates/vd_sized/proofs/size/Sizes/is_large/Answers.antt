@@ -1,4 +1,4 @@
-use Rattle.std.proofs.Common.{◌≡◌, ltb, refl, sym, subst, IsTrue}
+use Rattle.std.proofs.Common.{ltb, refl, sym, subst, IsTrue}
 use Rattle.std.specs.Prelude.{◌↔◌}
 use Rattle.vd_base.specs.Layout.{most_cells}
 use Rattle.vd_sized.specs.Cells.{HasCells, HaveCells, IsLarge}

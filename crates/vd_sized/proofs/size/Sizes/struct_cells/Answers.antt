@@ -1,6 +1,4 @@
-use Rattle.std.proofs.Common.{◌≡◌, [], ◌∷◌, refl, sym, ap, ◌∙◌, subst, true, false}
-use Rattle.vd_heads.specs.declared.table.Space.TheVariants as space
-use Rattle.vd_heads.specs.Closure.{Knows}
+use Rattle.std.proofs.Common.{◌≡◌, [], ◌∷◌, refl, sym, ap, ◌∙◌, true, false}
 use Rattle.vd_heads.specs.Held.{held}
 use Rattle.vd_sized.specs.Cells as cells
 use Rattle.vd_sized.specs.Sizes.{kept}

@@ -1,4 +1,4 @@
-use Rattle.std.proofs.Common.{take, ◌≤◌, length}
+use Rattle.std.proofs.Common.{take}
 use Rattle.vd_sized.specs.Cells.{HasCells, HaveCells}
 use Rattle.vd_sized.specs.Counts.{CountsSome}
 use Rattle.vd_sized.specs.Sizes.{Waits}
