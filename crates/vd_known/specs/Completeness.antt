@@ -35,6 +35,14 @@ HasOwn parts own s name = (i : ℕ) × (c : Content) × IsDeclared parts s name 
 abbrev pub IsExported : List Part → ℕ → Bytes → Type 0
 IsExported parts own f = (n : ℕ) × (i : ℕ) × (c : Content) × Exports parts own n × IsDeclared parts space.Function f n i c
 
+-- Nothing specifies the function.
+abbrev pub IsUnknown : List Part → ℕ → Bytes → Type 0
+IsUnknown parts own f = (HasOwn parts own space.Function f → ⊥) × (IsExported parts own f → ⊥)
+
+-- The unit and an interface that it exports specify the function.
+abbrev pub IsSubsumed : List Part → ℕ → Bytes → Type 0
+IsSubsumed parts own f = HasOwn parts own space.Function f × IsExported parts own f
+
 module _ (lines : Bytes) where
   -- A section of this kind and name has its header line among the lines.
   abbrev pub Stands : SectionKind → Bytes → Type 0
@@ -43,7 +51,7 @@ module _ (lines : Bytes) where
   module _ (parts : List Part) (own : ℕ) where
     -- A function without a specification.
     abbrev pub IsUnspecified : Bytes → Type 0
-    IsUnspecified f = Stands section.Fn f × (HasOwn parts own space.Function f → ⊥) × (IsExported parts own f → ⊥)
+    IsUnspecified f = Stands section.Fn f × IsUnknown parts own f
 
     -- A proof without its function.
     abbrev pub IsAlone : Bytes → Type 0
@@ -51,7 +59,7 @@ module _ (lines : Bytes) where
 
     -- A subsumption without its function, or of what is not exported with a specification of the unit's own.
     abbrev pub IsUnasked : Bytes → Type 0
-    IsUnasked f = Stands section.Sub f × ((Stands section.Fn f × HasOwn parts own space.Function f × IsExported parts own f) → ⊥)
+    IsUnasked f = Stands section.Sub f × ((Stands section.Fn f × IsSubsumed parts own f) → ⊥)
 
     -- What asks for nothing of the unit.
     abbrev pub IsStray : Type 0
