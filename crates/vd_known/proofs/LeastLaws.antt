@@ -68,7 +68,7 @@ items_next G xs n x o r below at new all = least_same (least_joined o r) to from
     | inl k ↦ inl (record { number = a.number; item = a.item; within = k; stands = a.stands; holds = a.holds })
     ]
 
-default_free : {A : Type 0} (xs : List A) (n : ℕ) (d e : A) → n < length xs → get_or xs n d ≡ get_or xs n e
+pub default_free : {A : Type 0} (xs : List A) (n : ℕ) (d e : A) → n < length xs → get_or xs n d ≡ get_or xs n e
 default_free [] n d e below = absurd (omega (arith, below))
 default_free (x ∷ xs) zero d e below = refl
 default_free (x ∷ xs) (suc n) d e below = default_free xs n d e (omega (arith, below))

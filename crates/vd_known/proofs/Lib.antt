@@ -7,3 +7,4 @@ mod ClashLaws
 mod PlaceLaws
 mod LineLaws
 mod OwnLaws
+mod NamedLaws

@@ -12,12 +12,16 @@ use Rattle.vd_heads.specs.Views.{IsView, is_marked, spots_of}
 use Rattle.vd_heads.proofs.Places.{spot_declared, declared_spot}
 use Rattle.vd_known.specs.Completeness.{HasOwn, IsExported}
 use Rattle.vd_known.proofs.ClashLaws.{any_at, at_any, is_same, true_not_false}
-use Rattle.vd_known.proofs.LeastLaws.{item_stands}
+use Rattle.vd_known.proofs.LeastLaws.{item_stands, default_free}
 
-pub own_here : (v : View) (s : Space) (name : Bytes) (xs : List Spot) (n : ℕ) (x : Spot) → xs ≡ spots_of v.parts.now s name → n < length xs → x ≡ get_or xs n x → x.part == v.own ≡ true → HasOwn v.parts.now v.own s name
-own_here v s name xs n x same below at e =
-    let d = spot_declared v.parts.now s name n x (ap (λ ys. slice_get ys n) (sym same) ∙ item_stands xs n x below at) in
-    (x.section, d.0, subst (λ k. IsDeclared v.parts.now s name k x.section d.0) (is_same x.part v.own e) d.1)
+read_stands : (xs : List Spot) (n : ℕ) (d : Spot) → n < length xs → slice_get xs n ≡ Some (get_or xs n d)
+read_stands xs n d below = item_stands xs n (get_or xs n d) below (default_free xs n d (get_or xs n d) below)
+
+pub own_here : (v : View) (s : Space) (name : Bytes) (xs : List Spot) (n : ℕ) (d : Spot) → xs ≡ spots_of v.parts.now s name → n < length xs → (get_or xs n d).part ≡ v.own → HasOwn v.parts.now v.own s name
+own_here v s name xs n d same below e =
+    let x = get_or xs n d in
+    let r = spot_declared v.parts.now s name n x (ap (λ ys. slice_get ys n) (sym same) ∙ read_stands xs n d below) in
+    (x.section, r.0, subst (λ k. IsDeclared v.parts.now s name k x.section r.0) e r.1)
 
 pub none_own : (v : View) (s : Space) (name : Bytes) (xs : List Spot) (n : ℕ) → xs ≡ spots_of v.parts.now s name → length xs ≤ n → list_any (λ x. x.part == v.own) (take n xs) ≡ false → HasOwn v.parts.now v.own s name → ⊥
 none_own v s name xs n same past e h =
@@ -25,10 +29,11 @@ none_own v s name xs n same past e h =
     let found : list_any (λ x. x.part == v.own) xs ≡ true = at_any (λ x. x.part == v.own) xs d.0 d.1 (ap (λ ys. slice_get ys d.0) same ∙ d.2) (eq-eqb d.1.part v.own d.3) in
     true_not_false (list_any (λ x. x.part == v.own) xs) found (ap (list_any (λ x. x.part == v.own)) (sym (take_all n xs past)) ∙ e)
 
-pub exported_here : (v : View) (name : Bytes) (xs : List Spot) (n : ℕ) (x : Spot) → IsView v → xs ≡ spots_of v.parts.now space.Function name → n < length xs → x ≡ get_or xs n x → is_marked v.exported.items x.part ≡ true → IsExported v.parts.now v.own name
-exported_here v name xs n x is same below at e =
-    let d = spot_declared v.parts.now space.Function name n x (ap (λ ys. slice_get ys n) (sym same) ∙ item_stands xs n x below at) in
-    (x.part, x.section, d.0, (is.exported x.part).0 e, d.1)
+pub exported_here : (v : View) (name : Bytes) (xs : List Spot) (n : ℕ) (d : Spot) → IsView v → xs ≡ spots_of v.parts.now space.Function name → n < length xs → is_marked v.exported.items (get_or xs n d).part ≡ true → IsExported v.parts.now v.own name
+exported_here v name xs n d is same below e =
+    let x = get_or xs n d in
+    let r = spot_declared v.parts.now space.Function name n x (ap (λ ys. slice_get ys n) (sym same) ∙ read_stands xs n d below) in
+    (x.part, x.section, r.0, (is.exported x.part).0 e, r.1)
 
 pub none_exported : (v : View) (name : Bytes) (xs : List Spot) (n : ℕ) → IsView v → xs ≡ spots_of v.parts.now space.Function name → length xs ≤ n → list_any (λ x. is_marked v.exported.items x.part) (take n xs) ≡ false → IsExported v.parts.now v.own name → ⊥
 none_exported v name xs n is same past e h =

@@ -27,23 +27,31 @@ pub record HasLine (text line : Bytes) : Type 0 where
   pub one : lacks 10 line ≡ true
   pub begins : (before ≡ []) ⊎ ((front : Bytes) × (before ≡ front ++ 10 ∷ []))
 
+-- The unit itself declares the name.
+abbrev pub HasOwn : List Part → ℕ → Space → Bytes → Type 0
+HasOwn parts own s name = (i : ℕ) × (c : Content) × IsDeclared parts s name own i c
+
+-- An interface that the unit exports specifies the function.
+abbrev pub IsExported : List Part → ℕ → Bytes → Type 0
+IsExported parts own f = (n : ℕ) × (i : ℕ) × (c : Content) × Exports parts own n × IsDeclared parts space.Function f n i c
+
+-- Nothing specifies the function.
+abbrev pub IsUnknown : List Part → ℕ → Bytes → Type 0
+IsUnknown parts own f = (HasOwn parts own space.Function f → ⊥) × (IsExported parts own f → ⊥)
+
+-- The unit and an interface that it exports specify the function.
+abbrev pub IsSubsumed : List Part → ℕ → Bytes → Type 0
+IsSubsumed parts own f = HasOwn parts own space.Function f × IsExported parts own f
+
 module _ (lines : Bytes) where
   -- A section of this kind and name has its header line among the lines.
   abbrev pub Stands : SectionKind → Bytes → Type 0
   Stands kind name = HasLine lines (header_line kind (Some name))
 
   module _ (parts : List Part) (own : ℕ) where
-    -- The unit itself declares the name.
-    abbrev pub HasOwn : Space → Bytes → Type 0
-    HasOwn s name = (i : ℕ) × (c : Content) × IsDeclared parts s name own i c
-
-    -- An interface that the unit exports specifies the function.
-    abbrev pub IsExported : Bytes → Type 0
-    IsExported f = (n : ℕ) × (i : ℕ) × (c : Content) × Exports parts own n × IsDeclared parts space.Function f n i c
-
     -- A function without a specification.
     abbrev pub IsUnspecified : Bytes → Type 0
-    IsUnspecified f = Stands section.Fn f × (HasOwn space.Function f → ⊥) × (IsExported f → ⊥)
+    IsUnspecified f = Stands section.Fn f × IsUnknown parts own f
 
     -- A proof without its function.
     abbrev pub IsAlone : Bytes → Type 0
@@ -51,7 +59,7 @@ module _ (lines : Bytes) where
 
     -- A subsumption without its function, or of what is not exported with a specification of the unit's own.
     abbrev pub IsUnasked : Bytes → Type 0
-    IsUnasked f = Stands section.Sub f × ((Stands section.Fn f × HasOwn space.Function f × IsExported f) → ⊥)
+    IsUnasked f = Stands section.Sub f × ((Stands section.Fn f × IsSubsumed parts own f) → ⊥)
 
     -- What asks for nothing of the unit.
     abbrev pub IsStray : Type 0
@@ -60,7 +68,7 @@ module _ (lines : Bytes) where
     -- The interface of number n asks for what the unit lacks: the definition of an abstract predicate, or a function.
     pub data Asks (n : ℕ) : Type 0 where
       predicate : {name : Bytes} {i : ℕ} {sorts : List Sort} {twice : Bool} → IsDeclared parts space.Predicate name n i (content.Abstract name sorts twice)
-          → (HasOwn space.Predicate name → ⊥) → Asks n
+          → (HasOwn parts own space.Predicate name → ⊥) → Asks n
       function : {f : Bytes} {i : ℕ} {c : Content} → IsDeclared parts space.Function f n i c → (Stands section.Fn f → ⊥) → Asks n
 
     -- A name in a list that is exported is that of an interface that asks for what the unit lacks, and this is its place.
@@ -74,7 +82,7 @@ module _ (lines : Bytes) where
 
     -- A specification has its function, and its subsumption where an interface exports it.
     abbrev pub IsServed : Bytes → Type 0
-    IsServed f = Stands section.Fn f × (IsExported f → Stands section.Sub f)
+    IsServed f = Stands section.Fn f × (IsExported parts own f → Stands section.Sub f)
 
     -- A section lacks something at a place: the name of an interface that it exports, or the header line of a specification that is not served.
     abbrev pub LacksIn : HeadSection → ℕ → Type 0

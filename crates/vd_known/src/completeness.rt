@@ -107,13 +107,21 @@ fn has_exported_spec(view: &View<'_>, name: &[u8]) -> bool
     false
 }
 
+/// Whether nothing specifies the function.
+fn is_unspecified(view: &View<'_>, name: &[u8]) -> bool
+    requires { IsView view.now }
+    ensures { IsTrue result ↔ complete.IsUnknown view.now.parts.now view.now.own name.now }
+{
+    !has_own(view, Space::Function, name) && !has_exported_spec(view, name)
+}
+
 /// Whether a function without a specification stands in the unit.
 fn has_unspecified(view: &View<'_>, bodies: &Bodies<'_>) -> bool
     requires { IsView view.now }
     ensures { (lines : Bytes) → AreBodies lines bodies.now → IsTrue result ↔ ((f : Bytes) × complete.IsUnspecified lines view.now.parts.now view.now.own f) }
 {
     for name in bodies.functions.as_slice() {
-        if !has_own(view, Space::Function, name) && !has_exported_spec(view, name) {
+        if is_unspecified(view, name) {
             return true;
         }
     }
@@ -133,6 +141,17 @@ fn has_alone(view: &View<'_>, bodies: &Bodies<'_>) -> bool
     false
 }
 
+/// Whether a subsumption of the function is asked for.
+fn is_asked(view: &View<'_>, bodies: &Bodies<'_>, name: &[u8]) -> bool
+    requires view { IsView view.now }
+    requires names { IsSet bodies.now.functions }
+    ensures { IsTrue result ↔ (IsIn bodies.now.functions name.now × complete.IsSubsumed view.now.parts.now view.now.own name.now) }
+{
+    bodies.functions.has(name)
+        && has_own(view, Space::Function, name)
+        && has_exported_spec(view, name)
+}
+
 /// Whether a subsumption that nothing asks for stands in the unit.
 fn has_unasked(view: &View<'_>, bodies: &Bodies<'_>) -> bool
     requires view { IsView view.now }
@@ -140,10 +159,7 @@ fn has_unasked(view: &View<'_>, bodies: &Bodies<'_>) -> bool
     ensures { (lines : Bytes) → AreBodies lines bodies.now → IsTrue result ↔ ((f : Bytes) × complete.IsUnasked lines view.now.parts.now view.now.own f) }
 {
     for name in bodies.subs.as_slice() {
-        let asked = bodies.functions.has(name)
-            && has_own(view, Space::Function, name)
-            && has_exported_spec(view, name);
-        if !asked {
+        if !is_asked(view, bodies, name) {
             return true;
         }
     }
