@@ -1,15 +1,16 @@
 -- The numbers of steps, by a step's node.
-use Rattle.std.proofs.Common.{ℕ, ◌≡◌, Bool, true, false, List, [], ◌∷◌, ◌++◌, map, refl, sym, ◌∙◌, ap, append_assoc}
+use Rattle.std.proofs.Common.{ℕ, ◌≡◌, List, [], ◌∷◌, ◌++◌, map, sym, ◌∙◌, ap, append_assoc}
 use Rattle.std.proofs.lemmas.List.{append-nil}
 use Rattle.vd_logic.specs.declared.assertion.Assertion.{Assertion}
 use Rattle.vd_logic.specs.declared.assertion.Prop.{Prop}
 use Rattle.vd_logic.specs.declared.step.Certificate.{Certificate}
-use Rattle.vd_logic.specs.declared.step.Block.{Block, out-Block, roll-Block, out-roll-Block, fold_out-Block}
-use Rattle.vd_logic.specs.declared.step.Step.{Step, out-Step, roll-Step, out-roll-Step, fold_out-Step}
-use Rattle.vd_logic.specs.declared.step.StepNode.{StepNode, StepNode-F, out-StepNode, fold_out-StepNode, map-StepNode}
+use Rattle.vd_logic.specs.declared.step.Block.{Block, out-Block, roll-Block, fold_out-Block}
+use Rattle.vd_logic.specs.declared.step.Step.{Step, out-Step, roll-Step, fold_out-Step}
+use Rattle.vd_logic.specs.declared.step.StepNode.{StepNode, StepNode-F, out-StepNode, roll-StepNode, out-roll-StepNode, ind-StepNode, fold_out-StepNode, map-StepNode}
 use Rattle.vd_logic.specs.declared.step.StepNode.TheOpen as open_
 use Rattle.vd_logic.specs.declared.step.StepNode.TheVariants as s
-use Rattle.vd_logic.specs.declared.step.StepNode.TheVariants.{outs-Set, outs-Load, outs-Store, outs-If, outs-While, outs-Break, outs-Continue, outs-Return, outs-Fall, outs-Block, outs-Pose, outs-Call, outs-Malloc, outs-Free, outs-MakeLock, outs-Acquire, outs-Release, outs-FreeLock, outs-Spawn, outs-Fold, outs-Unfold, outs-Split, outs-Absurd, outs-Have, outs-Law, outs-Subst, outs-Rewrite, outs-Cut, outs-Glue, outs-Share, outs-Unshare, outs-Agree, outs-Bounds, outs-Apart, outs-Forget, outs-Meet, outs-Name}
+use Rattle.vd_logic.specs.declared.step.StepNode.TheVariants.{outs-If, outs-While, outs-Block, outs-Pose, outs-Malloc, outs-Unfold, outs-Split}
+use Rattle.vd_logic.specs.declared.step.StepNode.TheVariants.{rolls-Skip, rolls-If, rolls-While, rolls-Block, rolls-Pose, rolls-Malloc, rolls-Unfold, rolls-Split, rolls-Set, rolls-Load, rolls-Store, rolls-Break, rolls-Continue, rolls-Return, rolls-Fall, rolls-Call, rolls-Free, rolls-MakeLock, rolls-Acquire, rolls-Release, rolls-FreeLock, rolls-Spawn, rolls-Fold, rolls-Absurd, rolls-Have, rolls-Law, rolls-Subst, rolls-Rewrite, rolls-Cut, rolls-Glue, rolls-Share, rolls-Unshare, rolls-Agree, rolls-Bounds, rolls-Apart, rolls-Forget, rolls-Meet, rolls-Name}
 use Rattle.vd_logic_grammar.specs.Numbers.{next_number, in_order, two_blocks, one_block, numbered_node_layer, numbered_step_layer, numbered_block_layer, numbered_node, numbered_step, numbered_block, numbered_in_order}
 
 abbrev counted : StepNode-F StepNode Block Step → ℕ → StepNode × ℕ
@@ -78,55 +79,63 @@ unfold_numbered n m bs found k h = ap (λ p. (s.Unfold k p.0, p.1)) h ∙ by_lay
 -- ---- nodes without
 
 -- the node has no block
-abbrev pub is_plain : StepNode → Bool
-is_plain (s.If xs cs a b) = false
-is_plain (s.While inv q xs a b) = false
-is_plain (s.Block k q xs a) = false
-is_plain (s.Pose q xs a) = false
-is_plain (s.Malloc x a b) = false
-is_plain (s.Unfold k bs) = false
-is_plain (s.Split p a b) = false
-is_plain _ = true
+pub record IsPlain (x : StepNode) : Type 0 where
+  pub no_if : (xs : List ℕ) (cs : List Certificate) (a b : Block) → x ≡ s.If xs cs a b → ⊥
+  pub no_while : (inv q : Assertion) (xs : List (List ℕ)) (a b : Block) → x ≡ s.While inv q xs a b → ⊥
+  pub no_block : (k : ℕ) (q : Assertion) (xs : List (List ℕ)) (a : Block) → x ≡ s.Block k q xs a → ⊥
+  pub no_pose : (q : Assertion) (xs : List (List ℕ)) (a : Block) → x ≡ s.Pose q xs a → ⊥
+  pub no_malloc : (y : List ℕ) (a b : Block) → x ≡ s.Malloc y a b → ⊥
+  pub no_unfold : (k : ℕ) (bs : List Block) → x ≡ s.Unfold k bs → ⊥
+  pub no_split : (p : Prop) (a b : Block) → x ≡ s.Split p a b → ⊥
 
-pub plain_numbered : (x : StepNode) (n : ℕ) → is_plain x ≡ true → (x, n) ≡ numbered_node x n
-plain_numbered s.Skip n h = by_layer s.Skip open_.Skip n refl
-plain_numbered (s.Set xs cs) n h = by_layer (s.Set xs cs) (open_.Set xs cs) n (outs-Set xs cs)
-plain_numbered (s.Load k xs cs) n h = by_layer (s.Load k xs cs) (open_.Load k xs cs) n (outs-Load k xs cs)
-plain_numbered (s.Store k xs cs) n h = by_layer (s.Store k xs cs) (open_.Store k xs cs) n (outs-Store k xs cs)
-plain_numbered (s.If xs cs a b) n h = cc
-plain_numbered (s.While inv q xs a b) n h = cc
-plain_numbered (s.Break ts cs) n h = by_layer (s.Break ts cs) (open_.Break ts cs) n (outs-Break ts cs)
-plain_numbered (s.Continue ts cs) n h = by_layer (s.Continue ts cs) (open_.Continue ts cs) n (outs-Continue ts cs)
-plain_numbered (s.Return ts xs cs) n h = by_layer (s.Return ts xs cs) (open_.Return ts xs cs) n (outs-Return ts xs cs)
-plain_numbered (s.Fall ts cs) n h = by_layer (s.Fall ts cs) (open_.Fall ts cs) n (outs-Fall ts cs)
-plain_numbered (s.Block k q xs a) n h = cc
-plain_numbered (s.Pose q xs a) n h = cc
-plain_numbered (s.Call ts xs cs ns) n h = by_layer (s.Call ts xs cs ns) (open_.Call ts xs cs ns) n (outs-Call ts xs cs ns)
-plain_numbered (s.Malloc x a b) n h = cc
-plain_numbered (s.Free k m cs) n h = by_layer (s.Free k m cs) (open_.Free k m cs) n (outs-Free k m cs)
-plain_numbered (s.MakeLock k l xs cs) n h = by_layer (s.MakeLock k l xs cs) (open_.MakeLock k l xs cs) n (outs-MakeLock k l xs cs)
-plain_numbered (s.Acquire k xs) n h = by_layer (s.Acquire k xs) (open_.Acquire k xs) n (outs-Acquire k xs)
-plain_numbered (s.Release k m xs) n h = by_layer (s.Release k m xs) (open_.Release k m xs) n (outs-Release k m xs)
-plain_numbered (s.FreeLock k m xs cs) n h = by_layer (s.FreeLock k m xs cs) (open_.FreeLock k m xs cs) n (outs-FreeLock k m xs cs)
-plain_numbered (s.Spawn ts xs cs) n h = by_layer (s.Spawn ts xs cs) (open_.Spawn ts xs cs) n (outs-Spawn ts xs cs)
-plain_numbered (s.Fold x k us ts cs) n h = by_layer (s.Fold x k us ts cs) (open_.Fold x k us ts cs) n (outs-Fold x k us ts cs)
-plain_numbered (s.Unfold k bs) n h = cc
-plain_numbered (s.Split p a b) n h = cc
-plain_numbered (s.Absurd cs) n h = by_layer (s.Absurd cs) (open_.Absurd cs) n (outs-Absurd cs)
-plain_numbered (s.Have p cs) n h = by_layer (s.Have p cs) (open_.Have p cs) n (outs-Have p cs)
-plain_numbered (s.Law x ts cs) n h = by_layer (s.Law x ts cs) (open_.Law x ts cs) n (outs-Law x ts cs)
-plain_numbered (s.Subst x) n h = by_layer (s.Subst x) (open_.Subst x) n (outs-Subst x)
-plain_numbered (s.Rewrite back k o) n h = by_layer (s.Rewrite back k o) (open_.Rewrite back k o) n (outs-Rewrite back k o)
-plain_numbered (s.Cut k a b) n h = by_layer (s.Cut k a b) (open_.Cut k a b) n (outs-Cut k a b)
-plain_numbered (s.Glue k m) n h = by_layer (s.Glue k m) (open_.Glue k m) n (outs-Glue k m)
-plain_numbered (s.Share k t cs) n h = by_layer (s.Share k t cs) (open_.Share k t cs) n (outs-Share k t cs)
-plain_numbered (s.Unshare k m cs) n h = by_layer (s.Unshare k m cs) (open_.Unshare k m cs) n (outs-Unshare k m cs)
-plain_numbered (s.Agree k m cs) n h = by_layer (s.Agree k m cs) (open_.Agree k m cs) n (outs-Agree k m cs)
-plain_numbered (s.Bounds k m cs) n h = by_layer (s.Bounds k m cs) (open_.Bounds k m cs) n (outs-Bounds k m cs)
-plain_numbered (s.Apart k m cs) n h = by_layer (s.Apart k m cs) (open_.Apart k m cs) n (outs-Apart k m cs)
-plain_numbered (s.Forget x) n h = by_layer (s.Forget x) (open_.Forget x) n (outs-Forget x)
-plain_numbered (s.Meet ts cs) n h = by_layer (s.Meet ts cs) (open_.Meet ts cs) n (outs-Meet ts cs)
-plain_numbered (s.Name x t) n h = by_layer (s.Name x t) (open_.Name x t) n (outs-Name x t)
+roll_plain : (l : StepNode-F StepNode Block Step) (n : ℕ) → IsPlain (roll-StepNode l) → counted l n ≡ (roll-StepNode l, n)
+roll_plain open_.Skip n h = ap (λ y. (y, n)) (sym rolls-Skip)
+roll_plain (open_.If xs cs a b) n h = absurd (h.no_if xs cs a b (rolls-If xs cs a b))
+roll_plain (open_.While inv q xs a b) n h = absurd (h.no_while inv q xs a b (rolls-While inv q xs a b))
+roll_plain (open_.Block k q xs a) n h = absurd (h.no_block k q xs a (rolls-Block k q xs a))
+roll_plain (open_.Pose q xs a) n h = absurd (h.no_pose q xs a (rolls-Pose q xs a))
+roll_plain (open_.Malloc x a b) n h = absurd (h.no_malloc x a b (rolls-Malloc x a b))
+roll_plain (open_.Unfold k bs) n h = absurd (h.no_unfold k bs (rolls-Unfold k bs))
+roll_plain (open_.Split p a b) n h = absurd (h.no_split p a b (rolls-Split p a b))
+roll_plain (open_.Set xs cs) n h = ap (λ y. (y, n)) (sym (rolls-Set xs cs))
+roll_plain (open_.Load k xs cs) n h = ap (λ y. (y, n)) (sym (rolls-Load k xs cs))
+roll_plain (open_.Store k xs cs) n h = ap (λ y. (y, n)) (sym (rolls-Store k xs cs))
+roll_plain (open_.Break ts cs) n h = ap (λ y. (y, n)) (sym (rolls-Break ts cs))
+roll_plain (open_.Continue ts cs) n h = ap (λ y. (y, n)) (sym (rolls-Continue ts cs))
+roll_plain (open_.Return ts xs cs) n h = ap (λ y. (y, n)) (sym (rolls-Return ts xs cs))
+roll_plain (open_.Fall ts cs) n h = ap (λ y. (y, n)) (sym (rolls-Fall ts cs))
+roll_plain (open_.Call ts xs cs ns) n h = ap (λ y. (y, n)) (sym (rolls-Call ts xs cs ns))
+roll_plain (open_.Free k m cs) n h = ap (λ y. (y, n)) (sym (rolls-Free k m cs))
+roll_plain (open_.MakeLock k l xs cs) n h = ap (λ y. (y, n)) (sym (rolls-MakeLock k l xs cs))
+roll_plain (open_.Acquire k xs) n h = ap (λ y. (y, n)) (sym (rolls-Acquire k xs))
+roll_plain (open_.Release k m xs) n h = ap (λ y. (y, n)) (sym (rolls-Release k m xs))
+roll_plain (open_.FreeLock k m xs cs) n h = ap (λ y. (y, n)) (sym (rolls-FreeLock k m xs cs))
+roll_plain (open_.Spawn ts xs cs) n h = ap (λ y. (y, n)) (sym (rolls-Spawn ts xs cs))
+roll_plain (open_.Fold x k us ts cs) n h = ap (λ y. (y, n)) (sym (rolls-Fold x k us ts cs))
+roll_plain (open_.Absurd cs) n h = ap (λ y. (y, n)) (sym (rolls-Absurd cs))
+roll_plain (open_.Have p cs) n h = ap (λ y. (y, n)) (sym (rolls-Have p cs))
+roll_plain (open_.Law x ts cs) n h = ap (λ y. (y, n)) (sym (rolls-Law x ts cs))
+roll_plain (open_.Subst x) n h = ap (λ y. (y, n)) (sym (rolls-Subst x))
+roll_plain (open_.Rewrite back k o) n h = ap (λ y. (y, n)) (sym (rolls-Rewrite back k o))
+roll_plain (open_.Cut k a b) n h = ap (λ y. (y, n)) (sym (rolls-Cut k a b))
+roll_plain (open_.Glue k m) n h = ap (λ y. (y, n)) (sym (rolls-Glue k m))
+roll_plain (open_.Share k t cs) n h = ap (λ y. (y, n)) (sym (rolls-Share k t cs))
+roll_plain (open_.Unshare k m cs) n h = ap (λ y. (y, n)) (sym (rolls-Unshare k m cs))
+roll_plain (open_.Agree k m cs) n h = ap (λ y. (y, n)) (sym (rolls-Agree k m cs))
+roll_plain (open_.Bounds k m cs) n h = ap (λ y. (y, n)) (sym (rolls-Bounds k m cs))
+roll_plain (open_.Apart k m cs) n h = ap (λ y. (y, n)) (sym (rolls-Apart k m cs))
+roll_plain (open_.Forget x) n h = ap (λ y. (y, n)) (sym (rolls-Forget x))
+roll_plain (open_.Meet ts cs) n h = ap (λ y. (y, n)) (sym (rolls-Meet ts cs))
+roll_plain (open_.Name x t) n h = ap (λ y. (y, n)) (sym (rolls-Name x t))
+
+abbrev Numbers : StepNode → Type 0
+Numbers x = IsPlain x → (n : ℕ) → (x, n) ≡ numbered_node x n
+
+rolled : (l : StepNode-F StepNode Block Step) → Numbers (roll-StepNode l)
+rolled l h n = sym (ap (λ f. f n) (node_is (roll-StepNode l) ∙ ap counted (out-roll-StepNode l)) ∙ roll_plain l n h)
+
+pub plain_numbered : (x : StepNode) → IsPlain x → (n : ℕ) → (x, n) ≡ numbered_node x n
+plain_numbered x = ind-StepNode Numbers (λ b. Unit {0}) (λ y. Unit {0}) (λ l y is. rolled l) (λ l y is. tt) (λ l y is. tt) x
 
 -- ---- steps and blocks
 

@@ -4,28 +4,14 @@ ghost use Rattle.std.specs.Prelude.{◌≡◌, ◌<◌, ◌≤◌, length, OnOk}
 ghost use Rattle.vd_grammar.specs.Reads.{Reads};
 ghost use Rattle.vd_logic_grammar.specs.Grammar.{Phrase, Rule};
 ghost use Rattle.vd_logic_grammar.specs.Read.{read, read_rule};
-ghost use Rattle.vd_script_text.specs.Lists.{two_lists};
 
 use crate::certificate::by;
 use crate::parts::{back, occurrence};
 use std::alloc::Global;
 use vd_assertion_text::{prop, terms};
-use vd_base::List;
 use vd_grammar::Stop;
-use vd_logic::{StepNode, Term};
-use vd_logic_grammar::{Class, Kind, Tokens, name_of};
-
-/// Two lists of terms in brackets.
-fn two_lists(alloc: Global, tokens: &mut Tokens<'_>) -> Result<(List<Term>, List<Term>), Stop>
-    ensures reads { Reads (two_lists tokens.old) result tokens.new }
-    ensures no_longer { length tokens.new ≤ length tokens.old }
-{
-    tokens.take(Kind::LeftParen)?;
-    let first = terms(alloc, tokens)?;
-    tokens.take(Kind::LeftParen)?;
-    let second = terms(alloc, tokens)?;
-    Ok((first, second))
-}
+use vd_logic::StepNode;
+use vd_logic_grammar::{Kind, Tokens, name_of};
 
 pub(crate) fn fold(alloc: Global, tokens: &mut Tokens<'_>) -> Result<StepNode, Stop>
     ensures reads { Reads (read_rule Rule.fold_step tokens.old) result tokens.new }
@@ -35,11 +21,14 @@ pub(crate) fn fold(alloc: Global, tokens: &mut Tokens<'_>) -> Result<StepNode, S
     tokens.take(Kind::Fold)?;
     let name = tokens.name()?;
     let case = tokens.index()?;
-    let lists = two_lists(alloc, tokens)?;
+    tokens.take(Kind::LeftParen)?;
+    let arguments = terms(alloc, tokens)?;
+    tokens.take(Kind::LeftParen)?;
+    let opened = terms(alloc, tokens)?;
     let proofs = by(alloc, tokens)?;
     tokens.take(Kind::Semicolon)?;
     let name = name_of(alloc, name)?;
-    Ok(StepNode::Fold(name, case.value as u32, lists.0, lists.1, proofs))
+    Ok(StepNode::Fold(name, case.value as u32, arguments, opened, proofs))
 }
 
 pub(crate) fn absurd(alloc: Global, tokens: &mut Tokens<'_>) -> Result<StepNode, Stop>
