@@ -2,7 +2,6 @@
 use Rattle.std.specs.Prelude.{◌≡◌, ◌⊎◌, ℕ, Bool, true, List, [], ◌∷◌, ◌++◌, Some}
 use Rattle.std.specs.List.{Contains}
 use Rattle.vd_logic.specs.declared.assertion.Spec.{Spec}
-use Rattle.vd_logic.specs.declared.term.Sort.{Sort}
 use Rattle.vd_outline.specs.declared.section.SectionKind.{SectionKind}
 use Rattle.vd_outline.specs.declared.section.SectionKind.TheVariants as section
 use Rattle.vd_outline.specs.Lines.{lacks}
@@ -65,20 +64,19 @@ module _ (lines : Bytes) where
     abbrev pub IsStray : Type 0
     IsStray = (f : Bytes) × (IsUnspecified f ⊎ (IsAlone f ⊎ IsUnasked f))
 
-    -- The interface of number n asks for what the unit lacks: the definition of an abstract predicate, or a function.
-    pub data Asks (n : ℕ) : Type 0 where
-      predicate : {name : Bytes} {i : ℕ} {sorts : List Sort} {twice : Bool} → IsDeclared parts space.Predicate name n i (content.Abstract name sorts twice)
-          → (HasOwn parts own space.Predicate name → ⊥) → Asks n
-      function : {f : Bytes} {i : ℕ} {c : Content} → IsDeclared parts space.Function f n i c → (Stands section.Fn f → ⊥) → Asks n
+    -- What a section of an interface says asks for what the unit lacks: the definition of an abstract predicate, or a function.
+    abbrev pub AsksFor : Content → Type 0
+    AsksFor (content.Abstract name sorts twice) = HasOwn parts own space.Predicate name → ⊥
+    AsksFor (content.Spec f twice) = Stands section.Fn f.name → ⊥
+    AsksFor _ = ⊥
 
-    -- A name in a list that is exported is that of an interface that asks for what the unit lacks, and this is its place.
-    pub record IsMissing (names : List Mention) (place : ℕ) : Type 0 where
-      pub mention : Mention
-      pub number : ℕ
-      pub listed : Contains names mention
-      pub is : interface_at parts mention.name ≡ Some number
-      pub asks : Asks number
-      pub place_is : place ≡ mention.place
+    -- A section of the interface of number n asks for what the unit lacks.
+    abbrev pub Asks : ℕ → Type 0
+    Asks n = (i : ℕ) × (h : HeadSection) × IsSection parts n i h × AsksFor h.content
+
+    -- A name that is exported is that of an interface that asks for what the unit lacks, and this is its place.
+    abbrev pub IsMissing : Mention → ℕ → Type 0
+    IsMissing m place = (n : ℕ) × (interface_at parts m.name ≡ Some n) × Asks n × (place ≡ m.place)
 
     -- A specification has its function, and its subsumption where an interface exports it.
     abbrev pub IsServed : Bytes → Type 0
@@ -86,7 +84,7 @@ module _ (lines : Bytes) where
 
     -- A section lacks something at a place: the name of an interface that it exports, or the header line of a specification that is not served.
     abbrev pub LacksIn : HeadSection → ℕ → Type 0
-    LacksIn h place = ((names : List Mention) × (h.content ≡ content.Exports names) × IsMissing names place)
+    LacksIn h place = ((names : List Mention) × (h.content ≡ content.Exports names) × (m : Mention) × Contains names m × IsMissing m place)
         ⊎ ((f : Spec) × (twice : Bool) × (h.content ≡ content.Spec f twice) × (IsServed f.name → ⊥) × (place ≡ h.place))
 
     -- The part is that of a unit that lacks something, at 0 or in a section.

@@ -1,8 +1,8 @@
 //! What a unit lacks.
 
-ghost use Rattle.std.specs.Prelude.{◌≡◌, ◌↔◌, ◌⊎◌, ℕ, Some, MatchOption, IfOk, OnOk, IsTrue};
+ghost use Rattle.std.specs.Prelude.{◌≡◌, ◌↔◌, ◌⊎◌, ℕ, Some, slice_get, MatchOption, IfOk, OnOk, IsTrue};
+ghost use Rattle.std.specs.List.{Contains};
 ghost use Rattle.vd_outline.specs.Outline.{header_line};
-ghost use Rattle.vd_heads.specs.Closure.{interface_at};
 ghost use Rattle.vd_heads.specs.Declaration.{Bytes};
 ghost use Rattle.vd_heads.specs.declared.table.Space.TheVariants as space;
 ghost use Rattle.vd_heads.specs.Least.{IsLeastOrNone};
@@ -15,7 +15,7 @@ use crate::least::least_of;
 use crate::names::Names;
 use std::alloc::{AllocError, Global};
 use vd_base::Text;
-use vd_heads::{Content, HeadSection, Mention, Space, View, least, section_word};
+use vd_heads::{Content, HeadSection, Mention, Space, View, section_word};
 use vd_outline::{SectionKind, cut_at};
 
 /// The names of a unit's functions, proofs and subsumptions, by the header lines of their sections.
@@ -166,42 +166,73 @@ fn has_unasked(view: &View<'_>, bodies: &Bodies<'_>) -> bool
     false
 }
 
-/// Whether the unit defines all that an interface of a name declares, where there is one.
-fn defines_all(view: &View<'_>, bodies: &Bodies<'_>, mention: &Mention) -> bool
+/// Whether what a section of an interface says asks for what the unit lacks.
+fn asks_for(view: &View<'_>, bodies: &Bodies<'_>, content: &Content) -> bool
     requires view { IsView view.now }
     requires names { IsSet bodies.now.functions }
-    ensures { (lines : Bytes) → AreBodies lines bodies.now → IsTrue result ↔ ((n : ℕ) → interface_at view.now.parts.now mention.now.name ≡ Some n → complete.Asks lines view.now.parts.now view.now.own n → ⊥) }
+    ensures { (lines : Bytes) → AreBodies lines bodies.now → IsTrue result ↔ complete.AsksFor lines view.now.parts.now view.now.own content.now }
 {
-    let Some(number) = view.table.interface(&mention.name) else {
-        return true;
-    };
-    let Some(part) = view.parts.get(number) else {
-        return true;
-    };
-    for section in part.sections.as_slice() {
-        let defined = match &section.content {
-            Content::Abstract(name, _, _) => has_own(view, Space::Predicate, name.as_bytes()),
-            Content::Spec(spec, _) => bodies.functions.has(spec.name.as_bytes()),
-            _ => true,
-        };
-        if !defined {
-            return false;
-        }
+    match content {
+        Content::Abstract(name, _, _) => !has_own(view, Space::Predicate, name.as_bytes()),
+        Content::Spec(spec, _) => !bodies.functions.has(spec.name.as_bytes()),
+        Content::Uses(_) | Content::Exports(_) | Content::Struct(_, _) => false,
+        Content::Global(_, _) | Content::Pred(_, _) | Content::Unread(_) => false,
     }
-    true
 }
 
-/// The smallest place of an exported interface, of those mentioned, that asks for what is missing.
+/// Whether one of these sections of an interface asks for what the unit lacks.
+fn one_asks(view: &View<'_>, bodies: &Bodies<'_>, sections: &[HeadSection]) -> bool
+    requires view { IsView view.now }
+    requires names { IsSet bodies.now.functions }
+    ensures { (lines : Bytes) → AreBodies lines bodies.now → IsTrue result ↔ ((i : ℕ) × (h : HeadSection) × (slice_get sections.now i ≡ Some h) × complete.AsksFor lines view.now.parts.now view.now.own h.content) }
+{
+    for section in sections {
+        if asks_for(view, bodies, &section.content) {
+            return true;
+        }
+    }
+    false
+}
+
+/// Whether the interface of this number asks for what the unit lacks.
+fn asks(view: &View<'_>, bodies: &Bodies<'_>, number: usize) -> bool
+    requires view { IsView view.now }
+    requires names { IsSet bodies.now.functions }
+    ensures { (lines : Bytes) → AreBodies lines bodies.now → IsTrue result ↔ complete.Asks lines view.now.parts.now view.now.own number }
+{
+    match view.parts.get(number) {
+        Some(part) => one_asks(view, bodies, part.sections.as_slice()),
+        None => false,
+    }
+}
+
+/// The place of a name that is exported, if its interface asks for what the unit lacks.
+fn missing_place(view: &View<'_>, bodies: &Bodies<'_>, mention: &Mention) -> Option<u32>
+    requires view { IsView view.now }
+    requires names { IsSet bodies.now.functions }
+    ensures { (lines : Bytes) → AreBodies lines bodies.now → IsLeastOrNone (complete.IsMissing lines view.now.parts.now view.now.own mention.now) result }
+{
+    match view.table.interface(&mention.name) {
+        Some(number) => {
+            if asks(view, bodies, number) {
+                Some(mention.place)
+            } else {
+                None
+            }
+        }
+        None => None,
+    }
+}
+
+/// The smallest place of an interface, of those exported, that asks for what the unit lacks.
 fn first_missing(view: &View<'_>, bodies: &Bodies<'_>, mentions: &[Mention]) -> Option<u32>
     requires view { IsView view.now }
     requires names { IsSet bodies.now.functions }
-    ensures { (lines : Bytes) → AreBodies lines bodies.now → IsLeastOrNone (complete.IsMissing lines view.now.parts.now view.now.own mentions.now) result }
+    ensures { (lines : Bytes) → AreBodies lines bodies.now → IsLeastOrNone (λ at. (m : Mention) × Contains mentions.now m × complete.IsMissing lines view.now.parts.now view.now.own m at) result }
 {
     let mut first = None;
     for mention in mentions {
-        if !defines_all(view, bodies, mention) {
-            first = least(first, mention.place);
-        }
+        first = least_of(first, missing_place(view, bodies, mention));
     }
     first
 }
