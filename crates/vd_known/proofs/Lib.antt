@@ -8,3 +8,4 @@ mod PlaceLaws
 mod LineLaws
 mod OwnLaws
 mod NamedLaws
+mod LackLaws

@@ -75,18 +75,22 @@ module _ (lines : Bytes) where
     Asks n = (i : ℕ) × (h : HeadSection) × IsSection parts n i h × AsksFor h.content
 
     -- A name that is exported is that of an interface that asks for what the unit lacks, and this is its place.
-    abbrev pub IsMissing : Mention → ℕ → Type 0
-    IsMissing m place = (n : ℕ) × (interface_at parts m.name ≡ Some n) × Asks n × (place ≡ m.place)
+    pub record IsMissing (mention : Mention) (place : ℕ) : Type 0 where
+      pub number : ℕ
+      pub is : interface_at parts mention.name ≡ Some number
+      pub asks : Asks number
+      pub place_is : place ≡ mention.place
 
     -- A specification has its function, and its subsumption where an interface exports it.
     abbrev pub IsServed : Bytes → Type 0
     IsServed f = Stands section.Fn f × (IsExported parts own f → Stands section.Sub f)
 
-    -- A section lacks something at a place: the name of an interface that it exports, or the header line of a specification that is not served.
-    abbrev pub LacksIn : HeadSection → ℕ → Type 0
-    LacksIn h place = ((names : List Mention) × (h.content ≡ content.Exports names) × (m : Mention) × Contains names m × IsMissing m place)
-        ⊎ ((f : Spec) × (twice : Bool) × (h.content ≡ content.Spec f twice) × (IsServed f.name → ⊥) × (place ≡ h.place))
+    -- A section of this content, with its header line at a place, lacks something at another: at the name of an interface that it exports, or at the header line of a specification that is not served.
+    abbrev pub LacksIn : Content → ℕ → ℕ → Type 0
+    LacksIn (content.Exports names) header place = (m : Mention) × Contains names m × IsMissing m place
+    LacksIn (content.Spec f twice) header place = (IsServed f.name → ⊥) × (place ≡ header)
+    LacksIn _ header place = ⊥
 
     -- The part is that of a unit that lacks something, at 0 or in a section.
     abbrev pub FailsComplete : ℕ → Type 0
-    FailsComplete place = IsUnit parts own × ((IsStray × (place ≡ 0)) ⊎ ((i : ℕ) × (h : HeadSection) × IsSection parts own i h × LacksIn h place))
+    FailsComplete place = IsUnit parts own × ((IsStray × (place ≡ 0)) ⊎ ((i : ℕ) × (h : HeadSection) × IsSection parts own i h × LacksIn h.content h.place place))

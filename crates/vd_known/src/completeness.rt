@@ -16,6 +16,7 @@ use crate::names::Names;
 use std::alloc::{AllocError, Global};
 use vd_base::Text;
 use vd_heads::{Content, HeadSection, Mention, Space, View, section_word};
+use vd_logic::Spec;
 use vd_outline::{SectionKind, cut_at};
 
 /// The names of a unit's functions, proofs and subsumptions, by the header lines of their sections.
@@ -247,37 +248,61 @@ fn is_served(view: &View<'_>, bodies: &Bodies<'_>, name: &[u8]) -> bool
     bodies.functions.has(name) && (bodies.subs.has(name) || !has_exported_spec(view, name))
 }
 
+/// The place of a specification's header line, if the specification is not served.
+fn spec_lack(view: &View<'_>, bodies: &Bodies<'_>, spec: &Spec, place: u32) -> Option<u32>
+    requires view { IsView view.now }
+    requires functions { IsSet bodies.now.functions }
+    requires subs { IsSet bodies.now.subs }
+    ensures { (lines : Bytes) → AreBodies lines bodies.now → IsLeastOrNone (λ at. (complete.IsServed lines view.now.parts.now view.now.own spec.now.name → ⊥) × (at ≡ place)) result }
+{
+    if is_served(view, bodies, spec.name.as_bytes()) {
+        None
+    } else {
+        Some(place)
+    }
+}
+
 /// The smallest place in a section at which a unit lacks what is asked of it.
 fn section_lack(view: &View<'_>, bodies: &Bodies<'_>, section: &HeadSection) -> Option<u32>
     requires view { IsView view.now }
     requires functions { IsSet bodies.now.functions }
     requires subs { IsSet bodies.now.subs }
-    ensures { (lines : Bytes) → AreBodies lines bodies.now → IsLeastOrNone (complete.LacksIn lines view.now.parts.now view.now.own section.now) result }
+    ensures { (lines : Bytes) → AreBodies lines bodies.now → IsLeastOrNone (complete.LacksIn lines view.now.parts.now view.now.own section.now.content section.now.place) result }
 {
     match &section.content {
         Content::Exports(mentions) => first_missing(view, bodies, mentions.as_slice()),
-        Content::Spec(spec, _) => {
-            if is_served(view, bodies, spec.name.as_bytes()) {
-                None
-            } else {
-                Some(section.place)
-            }
-        }
+        Content::Spec(spec, _) => spec_lack(view, bodies, spec, section.place),
         Content::Uses(_) | Content::Struct(_, _) | Content::Global(_, _) => None,
         Content::Abstract(_, _, _) | Content::Pred(_, _) | Content::Unread(_) => None,
     }
 }
 
+/// Whether something that asks for nothing of the unit stands in it.
+fn has_stray(view: &View<'_>, bodies: &Bodies<'_>) -> bool
+    requires view { IsView view.now }
+    requires names { IsSet bodies.now.functions }
+    ensures { (lines : Bytes) → AreBodies lines bodies.now → IsTrue result ↔ complete.IsStray lines view.now.parts.now view.now.own }
+{
+    if has_unspecified(view, bodies) {
+        return true;
+    }
+    if has_alone(view, bodies) {
+        return true;
+    }
+    has_unasked(view, bodies)
+}
+
 /// The smallest place at which a unit lacks what is asked of it.
 pub fn first_lack(view: &View<'_>, bodies: &Bodies<'_>) -> Option<u32>
     requires view { IsView view.now }
-    requires bodies { (lines : Bytes) × AreBodies lines bodies.now }
+    requires functions { IsSet bodies.now.functions }
+    requires subs { IsSet bodies.now.subs }
     ensures { (lines : Bytes) → AreBodies lines bodies.now → IsLeastOrNone (complete.FailsComplete lines view.now.parts.now view.now.own) result }
 {
     if !view.is_unit() {
         return None;
     }
-    if has_unspecified(view, bodies) || has_alone(view, bodies) || has_unasked(view, bodies) {
+    if has_stray(view, bodies) {
         return Some(0);
     }
     let mut first = None;
