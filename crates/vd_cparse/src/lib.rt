@@ -19,8 +19,6 @@ mod parts;
 mod printing;
 mod section;
 mod statement;
-#[cfg(test)]
-mod tests;
 mod token;
 mod types;
 mod words;

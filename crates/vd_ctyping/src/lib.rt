@@ -21,6 +21,3 @@ mod statement;
 pub use fault::TypeFault;
 pub use function::type_fn;
 pub use laws::typing_laws;
-
-#[cfg(test)]
-mod tests;

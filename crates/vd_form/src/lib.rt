@@ -15,6 +15,8 @@ mod specification;
 #[cfg(test)]
 mod tests;
 mod token;
+#[cfg(test)]
+mod typing_tests;
 mod words;
 
 pub use sections::{read_function, read_names, read_script, read_specification};

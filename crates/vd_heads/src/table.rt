@@ -64,6 +64,7 @@ impl<'a> Declarations<'a> {
         Ok(())
     }
 
+    /// Where a name is declared, in the order of the parts and sections.
     pub fn spots(&self, name: &[u8]) -> &[Spot]
         ensures { result.now ≡ spots_in self.now name.now }
     {
@@ -73,6 +74,7 @@ impl<'a> Declarations<'a> {
         }
     }
 
+    /// The names that are declared more than once, in the order of their second declarations.
     pub fn shared(&self) -> &[&'a [u8]]
         ensures { result.now ≡ self.now.shared }
     {
@@ -108,6 +110,7 @@ impl<'a> Table<'a> {
     ghost use Rattle.vd_heads.specs.Closure.{heads_interface};
     ghost use Rattle.vd_heads.specs.Views.{AreDeclarations, IsTable, in_space, interface_in, spots_in_part};
 
+    /// The declarations of a name space.
     pub fn in_space(&self, space: Space) -> &Declarations<'a>
         ensures { result.now ≡ in_space space self.now }
     {
@@ -198,6 +201,7 @@ impl<'a> Table<'a> {
         self.add_sections(alloc, number, part.sections.as_slice())
     }
 
+    /// The table of all declarations of the parts.
     pub fn of(alloc: Global, parts: &'a [Part]) -> Result<Table<'a>, AllocError>
         ensures { IfOk result (IsTable parts.now) }
     {

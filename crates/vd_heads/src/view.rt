@@ -33,6 +33,7 @@ fn is_marked(marks: &Vec<bool>, number: usize) -> bool
 }
 
 impl<'a> View<'a> {
+    /// The view of the part of a number, from 0.
     pub fn of(
         alloc: Global,
         parts: &'a [Part],
@@ -75,18 +76,21 @@ impl<'a> View<'a> {
         }
     }
 
+    /// Whether the part of a number is in its closure.
     pub fn sees(&self, part: usize) -> bool
         ensures { result ≡ is_marked self.now.closure.items part }
     {
         is_marked(&self.closure, part)
     }
 
+    /// Whether it exports the interface of that number.
     pub fn exports(&self, part: usize) -> bool
         ensures { result ≡ is_marked self.now.exported.items part }
     {
         is_marked(&self.exported, part)
     }
 
+    /// What the section at a spot says.
     pub fn content_at(&self, spot: Spot) -> Option<&'a Content>
         ensures { option_copied result ≡ option_map (λ h. h.content) (section_at self.now.parts.now spot.part spot.section) }
     {

@@ -10,8 +10,6 @@ mod machine;
 mod rival;
 mod schedule;
 mod statement;
-#[cfg(test)]
-mod tests;
 mod touch;
 mod turn;
 mod watch;

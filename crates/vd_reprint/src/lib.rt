@@ -2,6 +2,8 @@
 //! on the reader, and nothing that a program needs stands on it.
 #![tactic(auto)]
 
+#[cfg(test)]
+mod reader_tests;
 mod reprint;
 #[cfg(test)]
 mod tests;

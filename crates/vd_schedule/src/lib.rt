@@ -11,4 +11,6 @@ pub use entry::Entry;
 pub use schedule::{ScheduleFault, parse_schedule};
 
 #[cfg(test)]
+mod machine_tests;
+#[cfg(test)]
 mod tests;

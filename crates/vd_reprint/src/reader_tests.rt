@@ -1,8 +1,10 @@
-use super::{ParseFault, parse_decl, parse_section};
+//! Sections by example, and the first fault of those that cannot be read. They stand here so that the readers are proved once.
+
 use std::alloc::{AllocError, Global};
 use std::test::Fail;
 use vd_base::Text;
-use vd_clight::{ExprNode, FnText, StmtNode};
+use vd_clight::FnText;
+use vd_cparse::{ParseFault, parse_decl, parse_section};
 
 /// A text, then a piece so many times.
 fn repeated(alloc: Global, front: &[u8], piece: &[u8], count: u32) -> Result<Text, AllocError> {

@@ -1,11 +1,11 @@
-//! Programs made by hand, and what their steps answer.
+//! Programs made by hand, and what their steps answer. They stand here so that the machine is proved once.
 
-use crate::{Cause, End, Machine, Outcome, Spot, Stepped, Turn, run};
 use std::alloc::{AllocError, Global};
 use vd_base::{Boxed, CType, List, Name};
 use vd_clight::{
     BinOp, Cond, GlobalDef, Kind, LockOp, Lval, Part, Program, Root, TExpr, TStmt, TypedFn,
 };
+use vd_machine::{Cause, End, Machine, Outcome, Spot, Stepped, Turn, run};
 use vd_mem::Value;
 
 fn name(alloc: Global, bytes: &[u8]) -> Result<Name, AllocError> {

@@ -1,5 +1,6 @@
-// Typed functions and faults of small functions, built as their reader would build them.
-use crate::{TypeFault, type_fn};
+//! Typed functions and faults of small functions, built as their reader would build them. They stand here so that typing
+//! is proved once.
+
 use std::alloc::Global;
 use std::test::Fail;
 use vd_base::{Boxed, CType, Field, List, Name, Structs, are_fields};
@@ -7,6 +8,7 @@ use vd_clight::{
     BinOp, CScope, Expr, ExprNode, FnText, Kind, Lval, Part, Root, Stmt, StmtNode, TExpr, TStmt,
     TypedFn,
 };
+use vd_ctyping::{TypeFault, type_fn};
 
 fn name(alloc: Global, bytes: &[u8]) -> Result<Name, Fail> {
     Ok(Name::new(alloc, bytes)?)
