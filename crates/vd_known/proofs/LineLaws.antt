@@ -1,5 +1,6 @@
 -- Header lines of a text, one after the other, and the names in them.
-use Rattle.std.proofs.Common.{◌≡◌, ◌↔◌, ◌⊎◌, ℕ, zero, suc, ◌<◌, Bool, true, false, ◌||◌, List, [], ◌∷◌, ◌++◌, length, get_or, All, Some, Result, Ok, Err, OnOk, inl, inr, refl, ap, sym, ◌∙◌, subst, arith, append_assoc, length-append}
+use Rattle.std.proofs.Common.{◌≡◌, ◌↔◌, ◌⊎◌, ℕ, zero, suc, ◌<◌, Bool, true, false, ◌||◌, List, [], ◌∷◌, ◌++◌, length, get_or, All, Some, inl, inr, refl, ap, sym, ◌∙◌, subst, arith, append_assoc, length-append}
+use Rattle.std.proofs.lemmas.Bool.{or_cases, or_left, or_right}
 use Rattle.std.proofs.lemmas.List.Folds.{list_any-append}
 use Rattle.std.proofs.lemmas.List.Elements.{All-nil, All-head, All-tail, All-push, Contains-push, Contains-push_cases, Contains-append_left}
 use Rattle.std.proofs.lemmas.Slice.Eq.{bytes_eq-Decides}
@@ -27,20 +28,8 @@ other_word kind line word rest cut one other name e = other ((cut_unique 32 word
 pub same_name : (kind : SectionKind) (line name other : Bytes) → line ≡ section_word kind ++ 32 ∷ name → line ≡ section_word kind ++ 32 ∷ other → name ≡ other
 same_name kind line name other e f = (cut_unique 32 (section_word kind) name (section_word kind) other (lacks_section_word 32 kind refl) (lacks_section_word 32 kind refl) (sym e ∙ f)).1
 
-or_either : (a b : Bool) → a || b ≡ true → (a ≡ true) ⊎ (b ≡ true)
-or_either true b e = inl refl
-or_either false b e = inr e
-
-pub or_left : (a b : Bool) → a ≡ true → a || b ≡ true
-or_left true b e = refl
-or_left false b e = cc
-
-pub or_right : (a b : Bool) → b ≡ true → a || b ≡ true
-or_right true b e = refl
-or_right false b e = e
-
 is_either : (f n : Bytes) → bytes_eq f n || false ≡ true → f ≡ n
-is_either f n e = elim (or_either (bytes_eq f n) false e) [ inl h ↦ (bytes_eq-Decides f n).0 h | inr h ↦ absurd (let g : false ≡ true = h in cc) ]
+is_either f n e = elim (or_cases (bytes_eq f n) false e) [ inl h ↦ (bytes_eq-Decides f n).0 h | inr h ↦ absurd (let g : false ≡ true = h in cc) ]
 
 -- one name more, of the line that has it
 pub names_more : (kind : SectionKind) (line name : Bytes) (old new : Names) → line ≡ section_word kind ++ 32 ∷ name → names_of new ≡ names_of old ++ name ∷ [] → (f : Bytes) → IsIn new f ↔ (IsIn old f ⊎ (line ≡ section_word kind ++ 32 ∷ f))
@@ -49,7 +38,7 @@ names_more kind line name old new is more f = (to, from) where
   split = ap (list_any (bytes_eq f)) more ∙ list_any-append (bytes_eq f) (names_of old) (name ∷ [])
 
   to : IsIn new f → IsIn old f ⊎ (line ≡ section_word kind ++ 32 ∷ f)
-  to h = elim (or_either (list_any (bytes_eq f) (names_of old)) (bytes_eq f name || false) (sym (ap (list_any (bytes_eq f)) more ∙ list_any-append (bytes_eq f) (names_of old) (name ∷ [])) ∙ h)) [
+  to h = elim (or_cases (list_any (bytes_eq f) (names_of old)) (bytes_eq f name || false) (sym (ap (list_any (bytes_eq f)) more ∙ list_any-append (bytes_eq f) (names_of old) (name ∷ [])) ∙ h)) [
       inl a ↦ inl a
     | inr b ↦ inr (is ∙ ap (λ x. section_word kind ++ 32 ∷ x) (sym (is_either f name b)))
     ]
@@ -57,10 +46,6 @@ names_more kind line name old new is more f = (to, from) where
   from : IsIn old f ⊎ (line ≡ section_word kind ++ 32 ∷ f) → IsIn new f
   from (inl a) = (ap (list_any (bytes_eq f)) more ∙ list_any-append (bytes_eq f) (names_of old) (name ∷ [])) ∙ or_left (list_any (bytes_eq f) (names_of old)) (bytes_eq f name || false) a
   from (inr b) = (ap (list_any (bytes_eq f)) more ∙ list_any-append (bytes_eq f) (names_of old) (name ∷ [])) ∙ or_right (list_any (bytes_eq f) (names_of old)) (bytes_eq f name || false) (or_left (bytes_eq f name) false ((bytes_eq-Decides f name).1 (same_name kind line f name b is)))
-
-pub on_ok_more : {T E A B : Type 0} (r : Result T E) → (A → B) → OnOk r A → OnOk r B
-on_ok_more (Ok x) f a = f a
-on_ok_more (Err e) f a = tt
 
 -- ---- lines of a text
 

@@ -1,7 +1,7 @@
 use Rattle.std.proofs.Common.{sym, ◌∙◌, refl, rules}
+use Rattle.std.proofs.lemmas.Bool.{iff_false}
 use Rattle.vd_known.specs.Completeness.{IsSubsumed}
 use Rattle.vd_known.specs.HeaderNames.{IsIn}
-use Rattle.vd_known.proofs.ClashLaws.{true_not_false}
 use Rattle.vd_known.proofs.NamedLaws.{none_start, none_next, none_all, key_listed}
 use Rattle.vd_known.proofs.completeness.has_alone.Goals as goal
 
@@ -15,7 +15,7 @@ loop-name-preserved c = none_next (λ f. IsIn c.args.bodies.now.functions f → 
 pub returns-then-not-has : goal.returns-then-not-has
 returns-then-not-has c = λ lines bodies.
     (λ _. (_, ((bodies.scripts.named _).0 (key_listed c.as_slice-name-items.result.now c.args.bodies.now.scripts.listed c.loop-name.name-index _ c.as_slice-name-items.ensures c.loop-name-test.true),
-      λ s. true_not_false _ ((bodies.functions.named _).1 s) (sym c.has.ensures ∙ (search rules)))), λ _. refl)
+      iff_false (bodies.functions.named _) (sym c.has.ensures ∙ (search rules)))), λ _. refl)
 
 pub returns : goal.returns
 returns c = λ lines bodies.
