@@ -1,8 +1,11 @@
 -- What a unit lacks, one section and one name after the other.
-use Rattle.std.proofs.Common.{◌≡◌, ◌↔◌, ◌⊎◌, ℕ, zero, suc, ◌+◌, ◌<◌, ◌≤◌, List, [], ◌∷◌, length, get_or, Option, None, Some, inl, inr, refl, ap, sym, ◌∙◌, subst, arith}
+use Rattle.std.proofs.Common.{◌≡◌, ◌↔◌, ◌⊎◌, ℕ, zero, suc, ◌+◌, ◌<◌, ◌≤◌, Bool, List, [], ◌∷◌, length, get_or, Option, None, Some, inl, inr, refl, ap, sym, ◌∙◌, subst, arith}
 use Rattle.std.proofs.lemmas.Option.{none-some, same_Some, slice_get_read, slice_get_within}
 use Rattle.std.specs.List.{Contains, slice_get}
 use Rattle.std.specs.Option.{option_and_then}
+use Rattle.vd_logic.specs.declared.assertion.Spec.{Spec}
+use Rattle.vd_heads.specs.declared.content.Content.{Content}
+use Rattle.vd_heads.specs.declared.content.Content.TheVariants as content
 use Rattle.vd_heads.specs.declared.content.HeadSection.{HeadSection}
 use Rattle.vd_heads.specs.declared.content.Mention.{Mention}
 use Rattle.vd_heads.specs.declared.content.Part.{Part}
@@ -79,6 +82,16 @@ module _ (lines : Bytes) (parts : List Part) (own : ℕ) where
 
   pub unserved_lack : (name own_name : Bytes) (header : ℕ) → (IsServed lines parts own name → ⊥) → name ≡ own_name → IsLeastOrNone (λ at. (IsServed lines parts own own_name → ⊥) × (at ≡ header)) (Some header)
   unserved_lack name own_name header not e = ((λ s. not (subst (IsServed lines parts own) (sym e) s), refl), λ at x. let p = x.1 in omega (arith, p))
+
+  -- ---- one section
+
+  pub exports_lack : (c : Content) (names mentions : List Mention) (header : ℕ) (o : Option ℕ) → c ≡ content.Exports names → mentions ≡ names → IsLeastOrNone (λ at. (m : Mention) × Contains mentions m × IsMissing lines parts own m at) o
+      → IsLeastOrNone (LacksIn lines parts own c header) o
+  exports_lack c names mentions header o is same h =
+      subst (λ k. IsLeastOrNone (LacksIn lines parts own k header) o) (sym is) (subst (λ ms. IsLeastOrNone (λ at. (m : Mention) × Contains ms m × IsMissing lines parts own m at) o) same h)
+
+  pub specified_lack : (c : Content) (f : Spec) (twice : Bool) (header : ℕ) (o : Option ℕ) → c ≡ content.Spec f twice → IsLeastOrNone (λ at. (IsServed lines parts own f.name → ⊥) × (at ≡ header)) o → IsLeastOrNone (LacksIn lines parts own c header) o
+  specified_lack c f twice header o is h = subst (λ k. IsLeastOrNone (LacksIn lines parts own k header) o) (sym is) h
 
   -- ---- the unit
 
