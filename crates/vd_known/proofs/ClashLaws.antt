@@ -1,5 +1,5 @@
 -- Two declarations of a name, as the code finds them.
-use Rattle.std.proofs.Common.{◌≡◌, ◌==◌, ℕ, zero, suc, ◌<◌, ◌≤◌, ◌⊎◌, Bool, true, false, not, ◌&&◌, ◌||◌, List, [], ◌∷◌, length, get_or, map, Option, None, Some, Bor, inl, inr, refl, ap, sym, ◌∙◌, subst, arith, eq-eqb}
+use Rattle.std.proofs.Common.{◌≡◌, ◌==◌, ℕ, zero, suc, ◌<◌, ◌≤◌, ◌⊎◌, Bool, true, false, not, ◌&&◌, List, [], ◌∷◌, length, get_or, map, Option, None, Some, Bor, inl, inr, refl, ap, sym, ◌∙◌, subst, arith, eq-eqb}
 use Rattle.std.proofs.lemmas.Bool.{and_parts, both_ways, cases_lt, eqb-true, false_from_ne_true, not-true, or_cases, or_left, or_right}
 use Rattle.std.proofs.lemmas.Option.{same_Some, slice_get_within}
 use Rattle.std.specs.List.{slice_get, list_any, Contains}
@@ -11,13 +11,13 @@ use Rattle.vd_heads.specs.declared.table.Space.{Space}
 use Rattle.vd_heads.specs.declared.table.Space.TheVariants as space
 use Rattle.vd_heads.specs.declared.table.Spot.{Spot}
 use Rattle.vd_heads.specs.declared.view.View.{View}
-use Rattle.vd_heads.specs.Closure.{Exports, Reaches, Sees}
+use Rattle.vd_heads.specs.Closure.{Sees}
 use Rattle.vd_heads.specs.Declaration.{Bytes, IsDeclared, section_at}
 use Rattle.vd_heads.specs.Least.{IsLeastOrNone, IsPlaceOf}
 use Rattle.vd_heads.specs.Views.{IsView, in_space, is_marked, spots_of}
 use Rattle.vd_heads.proofs.Places.{spot_declared, declared_spot, spots_ordered}
 use Rattle.vd_known.specs.Clash.{said_at, both_define, defines_at, clashes, clash_among, has_clash, last_own, least_joined}
-use Rattle.vd_known.specs.Twice.{defines, IsDefinition, IsTwofold, IsTwofoldAt, FailsTwice, last_place, own_sections, repeats}
+use Rattle.vd_known.specs.Twice.{IsDefinition, IsTwofold, IsTwofoldAt, FailsTwice, last_place, own_sections, repeats}
 use Rattle.vd_known.proofs.ItemLaws.{any_at, at_any}
 use Rattle.vd_known.proofs.LeastLaws.{Items, least_same, least_both}
 use Rattle.vd_known.proofs.PlaceLaws.{last_is}
@@ -103,7 +103,12 @@ twofold_found v s name is e =
     let says_a = said v s name k.one a.0 a.1 in
     let says_b = said v s name k.two b.0 b.1 in
     record {
-      first_part = k.one.part; first_section = k.one.section; first_says = a.0; other_part = k.two.part; other_section = k.two.section; other_says = b.0;
+      first_part = k.one.part;
+      first_section = k.one.section;
+      first_says = a.0;
+      other_part = k.two.part;
+      other_section = k.two.section;
+      other_says = b.0;
       first = record { reached = ((is.closure k.one.part).0 k.one_seen).1; declared = a.1 };
       other = record { reached = ((is.closure k.two.part).0 k.two_seen).1; declared = b.1 };
       are_two = λ p q. (let o : k.one.section < k.two.section = spots_ordered v.parts.now s name k.first k.other k.one k.two k.one_stands k.two_stands k.ordered p in omega (arith, o, q));
@@ -134,10 +139,10 @@ two_clash v s name j m x y c d is at_x at_y sees_x sees_y differ forth back =
     let no_forth = false_from_ne_true (defines_at v x y) (λ e. forth (defining v x y c d is says_x says_y e)) in
     let no_back = false_from_ne_true (defines_at v y x) (λ e. back (defining v y x d c is says_y says_x e)) in
     elim (cases_lt j m) [
-      inl below ↦ clash_whole v xs j m x y below at_x at_y seen other no_forth no_back
-    | inr above ↦ elim (cases_lt m j) [
-        inl below ↦ clash_whole v xs m j y x below at_y at_x other seen no_back no_forth
-      | inr same ↦ (let e : j ≡ m = omega arith in absurd (differ (same_Some x y (sym at_x ∙ (ap (slice_get xs) e ∙ at_y)))))
+      | inl below ↦ clash_whole v xs j m x y below at_x at_y seen other no_forth no_back
+      | inr above ↦ elim (cases_lt m j) [
+        | inl below ↦ clash_whole v xs m j y x below at_y at_x other seen no_back no_forth
+        | inr same ↦ (let e : j ≡ m = omega arith in absurd (differ (same_Some x y (sym at_x ∙ (ap (slice_get xs) e ∙ at_y)))))
       ]
     ]
 
@@ -148,9 +153,9 @@ twofold_whole v s name is t =
     let x = a.1 in
     let y = b.1 in
     two_clash v s name a.0 b.0 x y t.first_says t.other_says is a.2 b.2 (moved v s name x t.first_part t.first_section t.first_says a.3 a.4 t.first) (moved v s name y t.other_part t.other_section t.other_says b.3 b.4 t.other)
-      (λ e. t.are_two (sym a.3 ∙ (ap (λ z. z.part) e ∙ b.3)) (sym a.4 ∙ (ap (λ z. z.section) e ∙ b.4)))
-      (λ d. t.first_defines_not (subst (λ k. IsDefinition v.parts.now v.own k t.first_says t.other_part t.other_says) a.3 (subst (λ k. IsDefinition v.parts.now v.own x.part t.first_says k t.other_says) b.3 d)))
-      (λ d. t.other_defines_not (subst (λ k. IsDefinition v.parts.now v.own k t.other_says t.first_part t.first_says) b.3 (subst (λ k. IsDefinition v.parts.now v.own y.part t.other_says k t.first_says) a.3 d)))
+    (λ e. t.are_two (sym a.3 ∙ (ap (λ z. z.part) e ∙ b.3)) (sym a.4 ∙ (ap (λ z. z.section) e ∙ b.4)))
+    (λ d. t.first_defines_not (subst (λ k. IsDefinition v.parts.now v.own k t.first_says t.other_part t.other_says) a.3 (subst (λ k. IsDefinition v.parts.now v.own x.part t.first_says k t.other_says) b.3 d)))
+    (λ d. t.other_defines_not (subst (λ k. IsDefinition v.parts.now v.own k t.other_says t.first_part t.first_says) b.3 (subst (λ k. IsDefinition v.parts.now v.own y.part t.other_says k t.first_says) a.3 d)))
 
 at_least_two : (v : View) (xs : List Spot) → has_clash v xs ≡ true → 2 ≤ length xs
 at_least_two v xs e = let k = clash_found v xs e in let o = k.ordered in let w = slice_get_within xs k.other k.two k.two_stands in omega arith
@@ -187,23 +192,23 @@ pub twice_all : (parts : List Part) (own : ℕ) (r a b c d : Option ℕ) → IsL
     → IsLeastOrNone (FailsTwice parts own) (least_joined (least_joined (least_joined (least_joined r a) b) c) d)
 twice_all parts own r a b c d is_r is_a is_b is_c is_d =
     least_same (least_joined (least_joined (least_joined (least_joined r a) b) c) d) to from
-      (least_both _ _ (least_joined (least_joined (least_joined r a) b) c) d (least_both _ _ (least_joined (least_joined r a) b) c (least_both _ _ (least_joined r a) b (least_both _ _ r a is_r is_a) is_b) is_c) is_d) where
-  to : (at : ℕ) → (((IsPlaceOf parts own (λ x. repeats x ≡ true) at ⊎ ((name : Bytes) × IsTwofoldAt parts own space.Struct name at)) ⊎ ((name : Bytes) × IsTwofoldAt parts own space.Global name at)) ⊎ ((name : Bytes) × IsTwofoldAt parts own space.Function name at)) ⊎ ((name : Bytes) × IsTwofoldAt parts own space.Predicate name at)
-      → FailsTwice parts own at
-  to at (inr h) = inl (space.Predicate, h.0, h.1)
-  to at (inl (inr h)) = inl (space.Function, h.0, h.1)
-  to at (inl (inl (inr h))) = inl (space.Global, h.0, h.1)
-  to at (inl (inl (inl (inr h)))) = inl (space.Struct, h.0, h.1)
-  to at (inl (inl (inl (inl h)))) = inr h
+    (least_both _ _ (least_joined (least_joined (least_joined r a) b) c) d (least_both _ _ (least_joined (least_joined r a) b) c (least_both _ _ (least_joined r a) b (least_both _ _ r a is_r is_a) is_b) is_c) is_d) where
+      to : (at : ℕ) → (((IsPlaceOf parts own (λ x. repeats x ≡ true) at ⊎ ((name : Bytes) × IsTwofoldAt parts own space.Struct name at)) ⊎ ((name : Bytes) × IsTwofoldAt parts own space.Global name at)) ⊎ ((name : Bytes) × IsTwofoldAt parts own space.Function name at)) ⊎ ((name : Bytes) × IsTwofoldAt parts own space.Predicate name at)
+          → FailsTwice parts own at
+      to at (inr h) = inl (space.Predicate, h.0, h.1)
+      to at (inl (inr h)) = inl (space.Function, h.0, h.1)
+      to at (inl (inl (inr h))) = inl (space.Global, h.0, h.1)
+      to at (inl (inl (inl (inr h)))) = inl (space.Struct, h.0, h.1)
+      to at (inl (inl (inl (inl h)))) = inr h
 
-  sort : (at : ℕ) (s : Space) (name : Bytes) → IsTwofoldAt parts own s name at
-      → (((IsPlaceOf parts own (λ x. repeats x ≡ true) at ⊎ ((n : Bytes) × IsTwofoldAt parts own space.Struct n at)) ⊎ ((n : Bytes) × IsTwofoldAt parts own space.Global n at)) ⊎ ((n : Bytes) × IsTwofoldAt parts own space.Function n at)) ⊎ ((n : Bytes) × IsTwofoldAt parts own space.Predicate n at)
-  sort at space.Struct name h = inl (inl (inl (inr (name, h))))
-  sort at space.Global name h = inl (inl (inr (name, h)))
-  sort at space.Function name h = inl (inr (name, h))
-  sort at space.Predicate name h = inr (name, h)
+      sort : (at : ℕ) (s : Space) (name : Bytes) → IsTwofoldAt parts own s name at
+          → (((IsPlaceOf parts own (λ x. repeats x ≡ true) at ⊎ ((n : Bytes) × IsTwofoldAt parts own space.Struct n at)) ⊎ ((n : Bytes) × IsTwofoldAt parts own space.Global n at)) ⊎ ((n : Bytes) × IsTwofoldAt parts own space.Function n at)) ⊎ ((n : Bytes) × IsTwofoldAt parts own space.Predicate n at)
+      sort at space.Struct name h = inl (inl (inl (inr (name, h))))
+      sort at space.Global name h = inl (inl (inr (name, h)))
+      sort at space.Function name h = inl (inr (name, h))
+      sort at space.Predicate name h = inr (name, h)
 
-  from : (at : ℕ) → FailsTwice parts own at
-      → (((IsPlaceOf parts own (λ x. repeats x ≡ true) at ⊎ ((n : Bytes) × IsTwofoldAt parts own space.Struct n at)) ⊎ ((n : Bytes) × IsTwofoldAt parts own space.Global n at)) ⊎ ((n : Bytes) × IsTwofoldAt parts own space.Function n at)) ⊎ ((n : Bytes) × IsTwofoldAt parts own space.Predicate n at)
-  from at (inl h) = sort at h.0 h.1 h.2
-  from at (inr h) = inl (inl (inl (inl h)))
+      from : (at : ℕ) → FailsTwice parts own at
+          → (((IsPlaceOf parts own (λ x. repeats x ≡ true) at ⊎ ((n : Bytes) × IsTwofoldAt parts own space.Struct n at)) ⊎ ((n : Bytes) × IsTwofoldAt parts own space.Global n at)) ⊎ ((n : Bytes) × IsTwofoldAt parts own space.Function n at)) ⊎ ((n : Bytes) × IsTwofoldAt parts own space.Predicate n at)
+      from at (inl h) = sort at h.0 h.1 h.2
+      from at (inr h) = inl (inl (inl (inl h)))

@@ -36,9 +36,9 @@ module _ {A : Type 0} where
 
   pub none_next : (G : A → Type 0) (xs : List A) (n : ℕ) (x : A) → slice_get xs n ≡ Some x → NoneOf G xs n → (G x → ⊥) → NoneOf G xs (n + 1)
   none_next G xs n x at before not k y within stands g = elim (cases_lt k n) [
-      inl less ↦ before k y less stands g
+    | inl less ↦ before k y less stands g
     | inr more ↦ (let e : k ≡ n = omega (arith, within, more) in not (subst G (same_Some y x (sym stands ∙ (ap (slice_get xs) e ∙ at))) g))
-    ]
+  ]
 
   pub none_end : (G : A → Type 0) (xs : List A) (n : ℕ) → length xs ≤ n → NoneOf G xs n → (k : ℕ) (x : A) → slice_get xs k ≡ Some x → G x → ⊥
   none_end G xs n past none k x at g = let w = slice_get_within xs k x at in none k x (omega (arith, w, past)) at g

@@ -1,5 +1,5 @@
 -- What a unit lacks, one section and one name after the other.
-use Rattle.std.proofs.Common.{◌≡◌, ◌↔◌, ◌⊎◌, ℕ, zero, suc, ◌+◌, ◌<◌, ◌≤◌, Bool, List, [], ◌∷◌, length, get_or, Option, None, Some, inl, inr, refl, ap, sym, ◌∙◌, subst, arith}
+use Rattle.std.proofs.Common.{◌≡◌, ◌↔◌, ℕ, ◌+◌, ◌<◌, ◌≤◌, Bool, List, length, get_or, Option, None, Some, inl, inr, refl, ap, sym, ◌∙◌, subst, arith}
 use Rattle.std.proofs.lemmas.Option.{none-some, same_Some, slice_get_read, slice_get_within}
 use Rattle.std.specs.List.{Contains, slice_get}
 use Rattle.std.specs.Option.{option_and_then}
@@ -10,7 +10,7 @@ use Rattle.vd_heads.specs.declared.content.HeadSection.{HeadSection}
 use Rattle.vd_heads.specs.declared.content.Mention.{Mention}
 use Rattle.vd_heads.specs.declared.content.Part.{Part}
 use Rattle.vd_heads.specs.Closure.{IsUnit, interface_at}
-use Rattle.vd_heads.specs.Declaration.{Bytes, IsSection, sections_in}
+use Rattle.vd_heads.specs.Declaration.{Bytes, sections_in}
 use Rattle.vd_heads.specs.Least.{IsLeastOrNone}
 use Rattle.vd_known.specs.Completeness.{Asks, AsksFor, FailsComplete, IsMissing, IsServed, IsStray, LacksIn}
 use Rattle.vd_known.proofs.ItemLaws.{NoneOf, contains_at, none_end, none_next, none_start}
@@ -105,7 +105,7 @@ module _ (lines : Bytes) (parts : List Part) (own : ℕ) where
 
     from : (at : ℕ) → FailsComplete lines parts own at → Items (InSection lines parts own) hs n at
     from at f = elim f.1 [
-        inl s ↦ absurd (stray s.0)
+      | inl s ↦ absurd (stray s.0)
       | inr x ↦ (let s : slice_get hs x.0 ≡ Some x.1 = ap (λ gs. slice_get gs x.0) is ∙ stands_section (slice_get parts own) x.0 x.1 x.2 in
           record { number = x.0; item = x.1; within = (let w = slice_get_within hs x.0 x.1 s in omega (arith, w, past)); stands = s; holds = x.3 })
-      ]
+    ]

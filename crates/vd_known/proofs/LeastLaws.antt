@@ -25,9 +25,9 @@ least_both F G None None f g = λ at h. elim h [ inl a ↦ f at a | inr b ↦ g 
 least_both F G (Some p) None f g = (inl f.0, λ at h. elim h [ inl a ↦ f.1 at a | inr b ↦ absurd (g at b) ])
 least_both F G None (Some x) f g = (inr g.0, λ at h. elim h [ inl a ↦ absurd (f at a) | inr b ↦ g.1 at b ])
 least_both F G (Some p) (Some x) f g = elim (min_cases p x) [
-      inl m ↦ (inl (subst F (sym m.0) f.0), λ at h. elim h [ inl a ↦ (let k : p ≤ at = f.1 at a in let e = m.0 in omega arith) | inr b ↦ (let k : x ≤ at = g.1 at b in let e = m.0 in let j = m.1 in omega arith) ])
-    | inr m ↦ (inr (subst G (sym m.0) g.0), λ at h. elim h [ inl a ↦ (let k : p ≤ at = f.1 at a in let e = m.0 in let j = m.1 in omega arith) | inr b ↦ (let k : x ≤ at = g.1 at b in let e = m.0 in omega arith) ])
-    ]
+  | inl m ↦ (inl (subst F (sym m.0) f.0), λ at h. elim h [ inl a ↦ (let k : p ≤ at = f.1 at a in let e = m.0 in omega arith) | inr b ↦ (let k : x ≤ at = g.1 at b in let e = m.0 in let j = m.1 in omega arith) ])
+  | inr m ↦ (inr (subst G (sym m.0) g.0), λ at h. elim h [ inl a ↦ (let k : p ≤ at = f.1 at a in let e = m.0 in let j = m.1 in omega arith) | inr b ↦ (let k : x ≤ at = g.1 at b in let e = m.0 in omega arith) ])
+]
 
 -- ---- items of a list
 
@@ -50,10 +50,10 @@ one_more G xs n x o r stands new all = least_same (least_joined o r) to from (le
 
   from : (place : ℕ) → Items G xs (n + 1) place → Items G xs n place ⊎ G x place
   from place a = elim (cases_lt a.number n) [
-      inr k ↦ (let w = a.within in let e : a.number ≡ n = omega (arith, w, k) in
+    | inr k ↦ (let w = a.within in let e : a.number ≡ n = omega (arith, w, k) in
         inr (subst (λ y. G y place) (same_Some a.item x (sym a.stands ∙ (ap (slice_get xs) e ∙ stands))) a.holds))
     | inl k ↦ inl (record { number = a.number; item = a.item; within = k; stands = a.stands; holds = a.holds })
-    ]
+  ]
 
 pub items_next : {A : Type 0} (G : A → ℕ → Type 0) (xs : List A) (n : ℕ) (x : A) (o r : Option ℕ) → n < length xs → x ≡ get_or xs n x → IsLeastOrNone (G x) r → IsLeastOrNone (Items G xs n) o → IsLeastOrNone (Items G xs (n + 1)) (least_joined o r)
 items_next G xs n x o r below at new all = one_more G xs n x o r (slice_get_read xs (length xs) n x refl below at) new all

@@ -1,5 +1,5 @@
 -- What the part itself declares, and what an exported interface specifies, by the places of declarations.
-use Rattle.std.proofs.Common.{◌≡◌, ◌==◌, ℕ, ◌<◌, ◌≤◌, Bool, true, false, List, length, get_or, take, Some, refl, ap, sym, ◌∙◌, subst, arith, eq-eqb}
+use Rattle.std.proofs.Common.{◌≡◌, ◌==◌, ℕ, ◌<◌, ◌≤◌, true, false, List, length, get_or, take, ap, sym, ◌∙◌, subst, eq-eqb}
 use Rattle.std.proofs.lemmas.Bool.{both_ways}
 use Rattle.std.proofs.lemmas.List.{take_all}
 use Rattle.std.proofs.lemmas.Option.{slice_get-get_or}
@@ -8,7 +8,6 @@ use Rattle.vd_heads.specs.declared.table.Space.{Space}
 use Rattle.vd_heads.specs.declared.table.Space.TheVariants as space
 use Rattle.vd_heads.specs.declared.table.Spot.{Spot}
 use Rattle.vd_heads.specs.declared.view.View.{View}
-use Rattle.vd_heads.specs.Closure.{Exports}
 use Rattle.vd_heads.specs.Declaration.{Bytes, IsDeclared}
 use Rattle.vd_heads.specs.Views.{IsView, is_marked, spots_of}
 use Rattle.vd_heads.proofs.Places.{spot_declared, declared_spot}
@@ -37,5 +36,5 @@ pub none_exported : (v : View) (name : Bytes) (xs : List Spot) (n : ℕ) → IsV
 none_exported v name xs n is same past e h =
     let d = declared_spot v.parts.now space.Function name h.0 h.1 h.2 h.4 in
     let found : list_any (λ x. is_marked v.exported.items x.part) xs ≡ true =
-      at_any (λ x. is_marked v.exported.items x.part) xs d.0 d.1 (ap (λ ys. slice_get ys d.0) same ∙ d.2) (ap (is_marked v.exported.items) d.3 ∙ (is.exported h.0).1 h.3) in
+    at_any (λ x. is_marked v.exported.items x.part) xs d.0 d.1 (ap (λ ys. slice_get ys d.0) same ∙ d.2) (ap (is_marked v.exported.items) d.3 ∙ (is.exported h.0).1 h.3) in
     both_ways (list_any (λ x. is_marked v.exported.items x.part) xs) (ap (list_any (λ x. is_marked v.exported.items x.part)) (sym (take_all n xs past)) ∙ e) found

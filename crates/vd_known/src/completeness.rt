@@ -44,11 +44,7 @@ fn name_behind<'a>(kind: SectionKind, line: &'a [u8]) -> Option<&'a [u8]>
 }
 
 /// Puts the name in a header line of this kind behind others, where there is one.
-fn add_named<'a>(
-    names: &mut Names<'a>,
-    kind: SectionKind,
-    line: &'a [u8],
-) -> Result<(), AllocError>
+fn add_named<'a>(names: &mut Names<'a>, kind: SectionKind, line: &'a [u8]) -> Result<(), AllocError>
     requires { IsSet names.old }
     ensures set { OnOk result (IsSet names.new) }
     ensures names { OnOk result ((f : Bytes) → IsIn names.new f ↔ (IsIn names.old f ⊎ (line.now ≡ header_line kind (Some f)))) }

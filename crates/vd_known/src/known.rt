@@ -102,9 +102,7 @@ fn knows_prop(view: &View<'_>, prop: &Prop) -> bool
         Prop::Rel(_, a, b) => knows_term(view, a) && knows_term(view, b),
         Prop::IsInt(a) => knows_term(view, a),
         Prop::IsPtr(a) => knows_term(view, a),
-        Prop::Each(l, a, b) => {
-            knows_term(view, l) && knows_term(view, a) && knows_term(view, b)
-        }
+        Prop::Each(l, a, b) => { knows_term(view, l) && knows_term(view, a) && knows_term(view, b) }
     }
 }
 

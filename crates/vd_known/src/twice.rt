@@ -53,9 +53,7 @@ fn both_define(own: Option<&Content>, other: Option<&Content>) -> bool
         None => false,
         Some(own) => match other {
             None => false,
-            Some(other) => {
-                is_pred(own) && is_abstract(other) || is_spec(own) && is_spec(other)
-            }
+            Some(other) => { is_pred(own) && is_abstract(other) || is_spec(own) && is_spec(other) }
         },
     }
 }

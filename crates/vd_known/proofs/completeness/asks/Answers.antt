@@ -7,7 +7,7 @@ pub returns-in-Some : goal.returns-in-Some
 returns-in-Some c = λ lines bodies.
     let v = c.args.view.now in
     part_asks lines v.parts.now v.own c.args.number c.in-Some.part.now c.as_slice.result.now _ (c.one_asks.ensures lines bodies)
-      (slice_get_read v.parts.now (length v.parts.now) c.args.number c.in-Some.part.now refl c.in-Some.ensures.lookup.3.0 c.in-Some.ensures.lookup.1) c.as_slice.ensures
+    (slice_get_read v.parts.now (length v.parts.now) c.args.number c.in-Some.part.now refl c.in-Some.ensures.lookup.3.0 c.in-Some.ensures.lookup.1) c.as_slice.ensures
 
 pub returns-in-None : goal.returns-in-None
 returns-in-None c = λ lines bodies.

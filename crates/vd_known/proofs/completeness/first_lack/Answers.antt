@@ -18,8 +18,8 @@ pub loop-section-preserved : goal.loop-section-preserved
 loop-section-preserved c = λ lines bodies.
     let hs = c.sections-section-items.result.now in
     subst (IsLeastOrNone (Items (InSection lines c.args.view.now.parts.now c.args.view.now.own) hs (c.loop-section.section-index + 1))) (sym c.least_of-first.ensures)
-      (items_next (InSection lines c.args.view.now.parts.now c.args.view.now.own) hs c.loop-section.section-index c.section-item.result c.loop-section.first c.section_lack.result c.loop-section-test.true c.section-item.is
-        (c.section_lack.ensures lines bodies) (c.loop-section.invariant lines bodies))
+    (items_next (InSection lines c.args.view.now.parts.now c.args.view.now.own) hs c.loop-section.section-index c.section-item.result c.loop-section.first c.section_lack.result c.loop-section-test.true c.section-item.is
+    (c.section_lack.ensures lines bodies) (c.loop-section.invariant lines bodies))
 
 pub returns : goal.returns
 returns c = λ lines bodies. sections_lack lines c.args.view.now.parts.now c.args.view.now.own c.sections-section-items.result.now c.loop-section.section-index c.loop-section.first (c.is_unit.ensures.0 (search rules))
