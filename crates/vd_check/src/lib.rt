@@ -3,11 +3,9 @@
 
 mod form;
 mod laws;
-mod names;
 mod report;
 mod rule;
 mod script;
-mod typing;
 mod value;
 mod whole;
 
@@ -15,6 +13,9 @@ pub use form::{LinkParts, Pair, UnitParts};
 pub use laws::{check_laws, safety_laws};
 pub use report::{Failure, Finding};
 pub use whole::{scratch, try_scratch};
+
+
+
 
 #[cfg(test)]
 mod tests;
