@@ -1,12 +1,8 @@
 -- What is found is the only one.
-use Rattle.std.proofs.Common.{◌≡◌, ◌≢◌, ◌∙◌, ap, sym, refl, subst, ℕ, Bool, true, false, List, [], map, Option, None, Some, Result, Ok, Err, IfOk}
-use Rattle.vd_clight.specs.declared.program.CScope.{CScope}
+use Rattle.std.proofs.Common.{◌≡◌, ◌≢◌, ◌∙◌, ap, sym, refl, subst, ℕ, List, map, Option, None, Some, Result, Ok, Err, IfOk}
 use Rattle.vd_clight.specs.declared.syntax.FnText.{FnText}
 use Rattle.vd_clight.specs.declared.typed.TypedFn.{TypedFn}
 use Rattle.vd_cparse.specs.Section.{AnswersFn}
-use Rattle.vd_ctyping.specs.declared.fault.TypeFault.{TypeFault}
-use Rattle.vd_ctyping.specs.Typing as typing
-use Rattle.vd_ctyping.specs.Typing.{TypedOnce, TypedHasNoFault, IsFirstFault}
 use Rattle.vd_grammar.specs.declared.fault.ParseFault.{ParseFault}
 use Rattle.vd_grammar.specs.declared.fault.ParseFault.TheVariants as fault
 use Rattle.vd_heads.specs.declared.content.Mention.{Mention}
@@ -14,9 +10,7 @@ use Rattle.vd_listing.specs.Listing.{IsListing, IsCut}
 use Rattle.vd_listing.specs.OneListing.{one_listing}
 use Rattle.vd_sparse.specs.declared.text.LogicText.{LogicText}
 use Rattle.vd_sparse.specs.Sections.{AnswersLogic}
-use Rattle.vd_form.specs.Plain.{is_plain_function}
-use Rattle.vd_form.specs.Simple.{is_simple_function}
-use Rattle.vd_form.specs.Sections.{Finds, IsTyped, IsTypedAs, Says, IsNames, own_scope}
+use Rattle.vd_form.specs.Sections.{Finds, IsTyped, IsTypedAs, Says, IsNames}
 
 -- ---- functions
 

@@ -1,12 +1,12 @@
 -- What the form allows, of what was read.
-use Rattle.std.specs.Prelude.{◌&&◌, ◌==◌, ℕ, pos, Bool, true, false, not, List, [], ◌∷◌, length, nat_le, Option, None, Some}
+use Rattle.std.specs.Prelude.{◌&&◌, ◌==◌, ℕ, pos, Bool, true, false, not, List, [], ◌∷◌, length, nat_le, Some}
 use Rattle.std.specs.List.{list_all}
 use Rattle.vd_base.specs.declared.ctype.CType.{CType, CType-F, out-CType}
 use Rattle.vd_base.specs.declared.ctype.CType.TheOpen as typ
 use Rattle.vd_base.specs.declared.ctype.Field.{Field}
 use Rattle.vd_clight.specs.declared.syntax.BinOp.TheVariants as operator
 use Rattle.vd_clight.specs.declared.syntax.Expr.{Expr, Expr-F, fold-Expr}
-use Rattle.vd_clight.specs.declared.syntax.ExprNode.{ExprNode, ExprNode-F, out-ExprNode}
+use Rattle.vd_clight.specs.declared.syntax.ExprNode.{ExprNode-F}
 use Rattle.vd_clight.specs.declared.syntax.ExprNode.TheOpen as node
 use Rattle.vd_clight.specs.declared.syntax.FnText.{FnText}
 use Rattle.vd_clight.specs.declared.syntax.Stmt.{Stmt}

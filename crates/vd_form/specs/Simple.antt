@@ -1,5 +1,5 @@
 -- Typed functions of the form.
-use Rattle.std.specs.Prelude.{◌&&◌, ◌==◌, ℕ, Bool, true, false, List, length, nat_lt, Option, None, Some}
+use Rattle.std.specs.Prelude.{◌&&◌, ◌==◌, ℕ, Bool, true, false, List, length, nat_lt, Some}
 use Rattle.std.specs.List.{list_all}
 use Rattle.vd_clight.specs.declared.syntax.BinOp.TheVariants as operator
 use Rattle.vd_clight.specs.declared.typed.Kind.TheVariants.{Signed}

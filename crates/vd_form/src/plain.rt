@@ -84,7 +84,8 @@ fn is_side(t: &Term) -> bool
     match t {
         Term::Var(number, Sort::Val) => *number == 0,
         Term::App(Op::Vi, args) => is_number(args.as_slice()),
-        Term::Num(_) | Term::Var(_, _) | Term::Named(_) | Term::Global(_) | Term::App(_, _) => false,
+        Term::Num(_) | Term::Var(_, _) | Term::Named(_) | Term::Global(_) | Term::App(_, _) =>
+            false,
     }
 }
 

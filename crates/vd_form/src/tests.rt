@@ -5,12 +5,21 @@ use vd_base::Text;
 #[test]
 fn functions_of_the_form(rt: HostRuntime) -> Result<(), AllocError> {
     let rows: [(&[u8], bool); 8] = [
-        (b"int main ( void ) { int t ; t = 2 + 3 ; return t ; }", true),
+        (
+            b"int main ( void ) { int t ; t = 2 + 3 ; return t ; }",
+            true,
+        ),
         (b"int main ( void ) { return ( 1 - 2 ) ; }", true),
         (b"int main ( void ) { int t ; t = 2u ; return t ; }", false),
-        (b"int main ( void ) { unsigned t ; t = 2 ; return 1 ; }", false),
+        (
+            b"int main ( void ) { unsigned t ; t = 2 ; return 1 ; }",
+            false,
+        ),
         (b"int main ( void ) { int t ; t = u ; return t ; }", false),
-        (b"int main ( void ) { int t ; int t ; t = 1 ; return t ; }", false),
+        (
+            b"int main ( void ) { int t ; int t ; t = 1 ; return t ; }",
+            false,
+        ),
         (b"int main ( int p ) { return p ; }", false),
         (b"int main ( void ) { ; return 1 ; }", false),
     ];
@@ -27,12 +36,27 @@ fn functions_of_the_form(rt: HostRuntime) -> Result<(), AllocError> {
 #[test]
 fn specifications_of_the_form(rt: HostRuntime) -> Result<(), AllocError> {
     let rows: [(&[u8], bool); 6] = [
-        (b"pre prop ( ) sep ( ) post prop ( r = vi(5) ) sep ( )", true),
-        (b"pre prop ( ) sep ( ) post prop ( vi(1) = vi(1) , r = r ) sep ( )", true),
+        (
+            b"pre prop ( ) sep ( ) post prop ( r = vi(5) ) sep ( )",
+            true,
+        ),
+        (
+            b"pre prop ( ) sep ( ) post prop ( vi(1) = vi(1) , r = r ) sep ( )",
+            true,
+        ),
         (b"pre prop ( ) sep ( ) post prop ( ) sep ( )", false),
-        (b"pre prop ( ) sep ( ) post prop ( r != vi(5) ) sep ( )", false),
-        (b"pre prop ( 0 = 0 ) sep ( ) post prop ( r = vi(5) ) sep ( )", false),
-        (b"with v : val ; pre prop ( ) sep ( ) post prop ( r = vi(5) ) sep ( )", false),
+        (
+            b"pre prop ( ) sep ( ) post prop ( r != vi(5) ) sep ( )",
+            false,
+        ),
+        (
+            b"pre prop ( 0 = 0 ) sep ( ) post prop ( r = vi(5) ) sep ( )",
+            false,
+        ),
+        (
+            b"with v : val ; pre prop ( ) sep ( ) post prop ( r = vi(5) ) sep ( )",
+            false,
+        ),
     ];
     for (assertions, is_found) in rows {
         let mut text = Text::new(rt.alloc(), b"spec main\nint main ( void )\n")?;
