@@ -1,5 +1,5 @@
 -- A typed function of the form is whole: its temporaries are its own.
-use Rattle.std.proofs.Common.{◌≡◌, ℕ, Bool, true, false, ◌&&◌, ◌==◌, nat_lt, List, [], ◌∷◌, length, Option, None, Some, refl, sym, ◌∙◌, ap, subst, rw}
+use Rattle.std.proofs.Common.{◌≡◌, ℕ, Bool, true, false, ◌&&◌, ◌==◌, nat_lt, List, [], ◌∷◌, length, Option, None, Some, refl, sym, ◌∙◌, ap, subst}
 use Rattle.std.specs.List.{list_all}
 use Rattle.vd_clight.specs.declared.program.Program.{Program}
 use Rattle.vd_clight.specs.declared.syntax.BinOp.{BinOp}
@@ -10,7 +10,7 @@ use Rattle.vd_clight.specs.declared.typed.Lval.{Lval, fold-Lval}
 use Rattle.vd_clight.specs.declared.typed.Part.{Part, fold-Part}
 use Rattle.vd_clight.specs.declared.typed.Part.TheOpen as expression
 use Rattle.vd_clight.specs.declared.typed.TExpr.{TExpr, TExpr-F, roll-TExpr, map-TExpr, ind-TExpr, fold-roll-TExpr}
-use Rattle.vd_clight.specs.declared.typed.TStmt.{TStmt, TStmt-F, out-TStmt, roll-TStmt, map-TStmt, fold-roll-TStmt}
+use Rattle.vd_clight.specs.declared.typed.TStmt.{TStmt, TStmt-F, out-TStmt, roll-TStmt, roll-out-TStmt, map-TStmt, fold-roll-TStmt}
 use Rattle.vd_clight.specs.declared.typed.TStmt.TheOpen as statement
 use Rattle.vd_clight.specs.declared.typed.TypedFn.{TypedFn}
 use Rattle.vd_clight.specs.Whole.{is_whole, whole_statement, is_whole_statement, whole_part, whole_expression as whole_layer, whole_place, is_whole_expression, is_whole_place}

@@ -14,8 +14,5 @@ pub use laws::{check_laws, safety_laws};
 pub use report::{Failure, Finding};
 pub use whole::{scratch, try_scratch};
 
-
-
-
 #[cfg(test)]
 mod tests;
