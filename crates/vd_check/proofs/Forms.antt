@@ -1,6 +1,5 @@
 -- Reading the texts of the form: what is found is the only one.
 use Rattle.std.proofs.Common.{◌≡◌, ℕ, List, [], ◌∷◌, Option, None, Some, Result, Ok, Err, IfOk, flat_map, length, refl, ap, sym, ◌∙◌, subst}
-use Rattle.vd_clight.specs.declared.syntax.FnText.{FnText}
 use Rattle.vd_clight.specs.declared.typed.TypedFn.{TypedFn}
 use Rattle.vd_outline.specs.declared.outline.Outline.{Outline}
 use Rattle.vd_outline.specs.declared.outline.TextKind.{TextKind}
@@ -11,12 +10,11 @@ use Rattle.vd_outline.specs.declared.section.SectionKind.TheVariants as section
 use Rattle.vd_outline.specs.Outline.{HasHead, Outlines}
 use Rattle.vd_logic.specs.declared.assertion.Spec.{Spec}
 use Rattle.vd_logic.specs.declared.step.Step.{Step}
-use Rattle.vd_form.specs.Sections.{Finds, IsFunction, IsSpecification, IsScript, IsNames}
+use Rattle.vd_form.specs.Sections.{Finds, IsTyped, IsSpecification, IsScript, IsNames}
 use Rattle.vd_check.specs.declared.form.UnitParts.{UnitParts}
 use Rattle.vd_check.specs.declared.form.LinkParts.{LinkParts}
 use Rattle.vd_check.specs.declared.form.Pair.{Pair}
-use Rattle.vd_check.specs.Form.{main, text_of, Under, IsTyped, HasParts, Lists, IsUnit, IsLink, Entry, AreNamed, ArePair, listing_of}
-use Rattle.vd_check.specs.Typing.{typed_function}
+use Rattle.vd_check.specs.Form.{main, text_of, Under, HasParts, Lists, IsUnit, IsLink, Entry, AreNamed, ArePair, listing_of}
 
 -- ---- sections
 
@@ -36,22 +34,6 @@ module _ {A : Type 0} (kind : SectionKind) (name : Option (List ℕ)) (sections 
   pub under_read : {E : Type 0} (r : Result (Option A) E) → IfOk r (Finds (Q text)) → IfOk r (Finds (λ a. Under kind name sections (λ t. Q t a)))
   under_read (Ok o) h = under_found o h
   under_read (Err e) h = tt
-
--- ---- functions
-
-pub untyped : (text : List ℕ) → Finds (IsFunction text) None → Finds (IsTyped text) None
-untyped text none = λ t h. none h.function h.reads
-
-typed_same : (text : List ℕ) (f : FnText) → Finds (IsFunction text) (Some f) → (t : TypedFn) → IsTyped text t → typed_function f ≡ Some t
-typed_same text f one t h = ap typed_function (sym (one.1 h.function h.reads)) ∙ h.typed
-
-typed_found : (text : List ℕ) (f : FnText) (t : Option TypedFn) → Finds (IsFunction text) (Some f) → t ≡ typed_function f → Finds (IsTyped text) t
-typed_found text f None one e = λ t h. let same = typed_same text f one t h in cc
-typed_found text f (Some t) one e = (record { function = f; reads = one.0; typed = sym e }, λ u h. let same = typed_same text f one u h in cc)
-
-pub typed_read : {E : Type 0} (text : List ℕ) (f : FnText) (r : Result (Option TypedFn) E) → Finds (IsFunction text) (Some f) → IfOk r (λ t. t ≡ typed_function f) → IfOk r (Finds (IsTyped text))
-typed_read text f (Ok t) one h = typed_found text f t one h
-typed_read text f (Err e) one h = tt
 
 -- ---- units
 

@@ -1,6 +1,5 @@
 pub mod Evaluating
 pub mod Forms
-pub mod NameLaws
 pub mod Orders
 pub mod OutcomeLaws
 pub mod Promising

@@ -25,7 +25,7 @@ safe_unit : (texts : List Entry) (p : Pair) (findings : List Finding) → AreTex
 safe_unit texts p findings are found all =
     let typed = are.pair.unit.2.typed.is in
     record {
-      whole = typed_is_whole typed.function p.unit.typed typed.typed;
+      whole = typed_is_whole are.pair.unit.2.typed.text p.unit.typed typed;
       safe = accepted_is_safe p.unit found.body found.judged (sym (ap are_accepted found.all) ∙ all);
     }
 

@@ -1,7 +1,5 @@
 -- The form of the texts that are checked today: a unit of one function `main` over integers, and a link that lists it alone.
 use Rattle.std.specs.Prelude.{◌≡◌, ◌≢◌, ◌⊎◌, ℕ, List, [], ◌∷◌, codes, Option, None, Some, option_map, length}
-use Rattle.vd_clight.specs.declared.syntax.FnText.{FnText}
-use Rattle.vd_clight.specs.declared.typed.TypedFn.{TypedFn}
 use Rattle.vd_outline.specs.declared.outline.Outline.{Outline}
 use Rattle.vd_outline.specs.declared.outline.TextKind.TheVariants.{Unit as UnitText, Link as LinkText}
 use Rattle.vd_outline.specs.declared.section.Section.{Section}
@@ -9,11 +7,10 @@ use Rattle.vd_outline.specs.declared.section.SectionKind.{SectionKind}
 use Rattle.vd_outline.specs.declared.section.SectionKind.TheVariants as section
 use Rattle.vd_outline.specs.Lookup.{section_called}
 use Rattle.vd_outline.specs.Outline.{Outlines}
-use Rattle.vd_form.specs.Sections.{IsFunction, IsSpecification, IsScript, IsNames}
+use Rattle.vd_form.specs.Sections.{IsTyped, IsSpecification, IsScript, IsNames}
 use Rattle.vd_check.specs.declared.form.LinkParts.{LinkParts}
 use Rattle.vd_check.specs.declared.form.Pair.{Pair}
 use Rattle.vd_check.specs.declared.form.UnitParts.{UnitParts}
-use Rattle.vd_check.specs.Typing.{typed_function}
 
 -- a text with its name and its version
 abbrev pub Entry : Type 0
@@ -33,12 +30,6 @@ pub record Under (kind : SectionKind) (name : Option (List ℕ)) (sections : Lis
   pub text : List ℕ
   pub found : text_of kind name sections ≡ Some text
   pub is : P text
-
--- the text is a function section, and this is its typed function
-pub record IsTyped (text : List ℕ) (t : TypedFn) : Type 0 where
-  pub function : FnText
-  pub reads : IsFunction text function
-  pub typed : typed_function function ≡ Some t
 
 -- ---- units and links
 

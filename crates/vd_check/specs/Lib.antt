@@ -3,11 +3,9 @@ pub mod Evaluated
 pub mod Form
 pub mod Laws
 pub mod Meaning
-pub mod NameTable
 pub mod Report
 pub mod Rule
 pub mod Safety
 pub mod Scratch
 pub mod Script
-pub mod Typing
 pub mod Value

@@ -1,7 +1,6 @@
 -- What an accepted check promises: the program of the texts is whole, and safe under every schedule.
 use Rattle.std.specs.Prelude.{◌≡◌, ℕ, true, List, [], ◌∷◌, Some}
 use Rattle.vd_clight.specs.declared.program.Program.{Program}
-use Rattle.vd_clight.specs.declared.syntax.FnText.{FnText}
 use Rattle.vd_clight.specs.declared.typed.TypedFn.{TypedFn}
 use Rattle.vd_clight.specs.Whole.{is_whole}
 use Rattle.vd_logic.specs.declared.assertion.Assertion.{Assertion}
@@ -15,7 +14,7 @@ use Rattle.vd_store.specs.declared.work.Verdict.TheVariants.{Accepted}
 use Rattle.vd_check.specs.Form.{Entry, AreTexts}
 use Rattle.vd_check.specs.Meaning.{Satisfies}
 use Rattle.vd_check.specs.Script.{HasVerdict}
-use Rattle.vd_check.specs.Typing.{typed_function}
+use Rattle.vd_form.specs.Sections.{IsTyped}
 
 -- the program of one function, its main
 abbrev pub program_of : TypedFn → Program
@@ -29,9 +28,9 @@ IsSafeFor post f = IsSafe (Satisfies post) (program_of f)
 abbrev pub AcceptedAreSafe : Type 0
 AcceptedAreSafe = (post : Assertion) (f : TypedFn) (steps : List Step) → HasVerdict post f steps Accepted → IsSafeFor post f
 
--- a typed function makes a whole program
+-- a typed function of the form makes a whole program
 abbrev pub TypedAreWhole : Type 0
-TypedAreWhole = (text : FnText) (f : TypedFn) → typed_function text ≡ Some f → is_whole (program_of f) ≡ true
+TypedAreWhole = (text : List ℕ) (f : TypedFn) → IsTyped text f → is_whole (program_of f) ≡ true
 
 -- the program of a unit of the form is whole, and safe for main's postcondition
 pub record HasSafeProgram (u : UnitParts) : Type 0 where

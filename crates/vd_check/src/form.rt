@@ -3,14 +3,13 @@
 ghost use Rattle.std.specs.Prelude.{◌≡◌, List as Lists_of, ℕ, ◌∷◌, [], None, option_copied, IfOk, IsTrue, ◌↔◌};
 ghost use Rattle.vd_outline.specs.declared.section.SectionKind.TheVariants as kind;
 ghost use Rattle.vd_outline.specs.Outline.{Outlines};
-ghost use Rattle.vd_form.specs.Sections.{Finds, IsSpecification, IsScript, IsNames};
-ghost use Rattle.vd_check.specs.Form.{main, text_of, Under, IsTyped, HasParts, Lists, IsUnit, IsLink, AreNamed, ArePair};
+ghost use Rattle.vd_form.specs.Sections.{Finds, IsTyped, IsSpecification, IsScript, IsNames};
+ghost use Rattle.vd_check.specs.Form.{main, text_of, Under, HasParts, Lists, IsUnit, IsLink, AreNamed, ArePair};
 
-use crate::typing::type_function;
 use std::alloc::{AllocError, Global};
 use vd_base::{List, Name, Text};
 use vd_clight::TypedFn;
-use vd_form::{read_function, read_names, read_script, read_specification};
+use vd_form::{read_names, read_script, read_specification, read_typed};
 use vd_logic::{Spec, Step};
 use vd_outline::{Outline, OutlineFault, Section, SectionKind, TextKind, find, outline_of};
 
@@ -84,15 +83,6 @@ fn units_of(alloc: Global, sections: &[Section]) -> Result<Option<List<Name>>, A
 {
     match text_of(sections, SectionKind::Units, None) {
         Some(text) => read_names(alloc, text),
-        None => Ok(None),
-    }
-}
-
-fn read_typed(alloc: Global, text: &Text) -> Result<Option<TypedFn>, AllocError>
-    ensures { IfOk result (Finds (IsTyped text.now)) }
-{
-    match read_function(alloc, text)? {
-        Some(function) => type_function(alloc, &function),
         None => Ok(None),
     }
 }

@@ -3,11 +3,9 @@
 
 mod form;
 mod laws;
-mod names;
 mod report;
 mod rule;
 mod script;
-mod typing;
 mod value;
 mod whole;
 

@@ -1,129 +1,89 @@
--- From what is read of a section's tokens to what the section is.
-use Rattle.std.proofs.Common.{ℕ, ◌≡◌, Bool, true, false, List, [], Option, Some, None, Result, Ok, Err, if◌then◌else◌, refl, sym, ◌∙◌, ap, subst}
-use Rattle.vd_logic.specs.declared.step.Step.{Step}
-use Rattle.vd_logic.specs.declared.step.StepNode.{StepNode}
-use Rattle.std.specs.Prelude.{MatchOption}
-use Rattle.std.specs.declared.alloc.Global.{Global}
-use Rattle.std.specs.declared.vec.Vec.{Vec}
-use Rattle.vd_grammar.specs.declared.stop.Stop.{Stop}
-use Rattle.vd_grammar.specs.declared.stop.Stop.TheVariants.{Refused, Memory}
-use Rattle.vd_grammar.specs.Grammar.{Is}
-use Rattle.vd_grammar.specs.Reads.{Reads}
-use Rattle.vd_grammar.specs.Outcome.{Outcome}
-use Rattle.vd_grammar.specs.Whole.{is_empty}
-use Rattle.vd_grammar.specs.Exact.{one_value, no_refusal, read_is_whole, left_refuses, stop_refuses}
-use Rattle.vd_form.specs.declared.kind.Kind.TheVariants.{End}
-use Rattle.vd_form.specs.declared.section.Section.{Section}
-use Rattle.vd_form.specs.declared.section.Section.TheVariants as section
-use Rattle.vd_form.specs.declared.token.Token.{Token}
-use Rattle.vd_form.specs.Cursor.{lexemes_of}
-use Rattle.vd_form.specs.Lexeme.{Lexeme}
-use Rattle.vd_form.specs.Grammar.{Phrase, Steps, Value}
-use Rattle.vd_form.specs.Reading.{grammar, read}
-use Rattle.vd_form.specs.Ending.{Gives}
-use Rattle.vd_form.specs.Numbering.{reads_steps}
-use Rattle.vd_form.specs.Sections.{Finds, HasTokens, Spells, IsScript, numbered_from}
-use Rattle.vd_form.proofs.Laws.{laws, follows}
-use Rattle.vd_form.proofs.OneSection.{same_tokens}
+-- What is found is the only one.
+use Rattle.std.proofs.Common.{◌≡◌, ◌≢◌, ◌∙◌, ap, sym, refl, subst, ℕ, List, map, Option, None, Some, Result, Ok, Err, IfOk}
+use Rattle.vd_clight.specs.declared.syntax.FnText.{FnText}
+use Rattle.vd_clight.specs.declared.typed.TypedFn.{TypedFn}
+use Rattle.vd_cparse.specs.Section.{AnswersFn}
+use Rattle.vd_grammar.specs.declared.fault.ParseFault.{ParseFault}
+use Rattle.vd_grammar.specs.declared.fault.ParseFault.TheVariants as fault
+use Rattle.vd_heads.specs.declared.content.Mention.{Mention}
+use Rattle.vd_listing.specs.Listing.{IsListing, IsCut}
+use Rattle.vd_listing.specs.OneListing.{one_listing}
+use Rattle.vd_sparse.specs.declared.text.LogicText.{LogicText}
+use Rattle.vd_sparse.specs.Sections.{AnswersLogic}
+use Rattle.vd_form.specs.Sections.{Finds, IsTyped, IsTypedAs, Says, IsNames}
 
-module _ (section : Section) (S : Phrase) (text : List ℕ) where
-  pub no_section : ((ts : List Lexeme) → HasTokens section text ts → ⊥) → Finds (Spells section S text) None
-  no_section bad v s = bad s.tokens s.section_is
+-- ---- functions
 
-  module _ (may_end : follows S End ≡ true) where
-    pub section_found : (ts rest : List Lexeme) (v : Value S) → HasTokens section text ts → read S ts ≡ Ok (v, rest) → is_empty rest ≡ true → Finds (Spells section S text) (Some v)
-    section_found ts rest v h r e =
-        let is : Is grammar S ts v = read_is_whole grammar laws S may_end ts v rest r e in (
-          record { tokens = ts; section_is = h; spelled = is },
-          λ w s. one_value grammar laws S may_end ts w v (subst (λ us. Is grammar S us w) (same_tokens section text s.tokens ts s.section_is h) s.spelled) is,
-        )
+-- a fault that is not want of memory
+pub bad_is_certain : (why : ParseFault) (place : ℕ) → why ≡ fault.Bad place → why ≢ fault.Memory
+bad_is_certain why place is = λ e. absurd (cc)
 
-    pub tokens_left : (ts rest : List Lexeme) (v : Value S) → HasTokens section text ts → read S ts ≡ Ok (v, rest) → is_empty rest ≡ false → Finds (Spells section S text) None
-    tokens_left ts rest v h r e w s =
-        no_refusal grammar laws S may_end ts w rest (subst (λ us. Is grammar S us w) (same_tokens section text s.tokens ts s.section_is h) s.spelled) (left_refuses grammar laws S may_end ts v rest r e)
+pub deep_is_certain : (why : ParseFault) (place : ℕ) → why ≡ fault.Deep place → why ≢ fault.Memory
+deep_is_certain why place is = λ e. absurd (cc)
 
-    pub token_refused : (ts rest : List Lexeme) → HasTokens section text ts → read S ts ≡ Err rest → Finds (Spells section S text) None
-    token_refused ts rest h r w s =
-        no_refusal grammar laws S may_end ts w rest (subst (λ us. Is grammar S us w) (same_tokens section text s.tokens ts s.section_is h) s.spelled) (stop_refuses grammar laws S may_end ts rest r)
+-- an answer is the only one
+abbrev pub Exact : {A : Type 0} → (Result A ParseFault → Type 0) → Result A ParseFault → Type 0
+Exact {A} Answers answer = (other : Result A ParseFault) → Answers other → answer ≢ Err fault.Memory → other ≢ Err fault.Memory → answer ≡ other
 
-    pub finds : (ts left : List Lexeme) (outcome : Result (Value S) Stop) → HasTokens section text ts → Reads (read S ts) outcome left → (found : Option (Value S)) → Gives outcome left found
-        → Finds (Spells section S text) found
-    finds ts left (Ok v) h r found g = by_test (is_empty left) refl found g
-      where
-        by_test : (b : Bool) → is_empty left ≡ b → (o : Option (Value S)) → o ≡ (if b then Some v else None) → Finds (Spells section S text) o
-        by_test true e o g = rw g (section_found ts left v h r e)
-        by_test false e o g = rw g (tokens_left ts left v h r e)
-    finds ts left (Err Refused) h r found g = rw g (token_refused ts left h r)
-    finds ts left (Err Memory) h r found g = absurd g
+ok_is : {A : Type 0} (x y : A) → ◌≡◌ {A = Result A ParseFault} (Ok x) (Ok y) → x ≡ y
+ok_is x y h = cc
 
--- ---- scripts
+not_memory : {A : Type 0} (x : A) → ◌≢◌ {A = Result A ParseFault} (Ok x) (Err fault.Memory)
+not_memory x = λ h. absurd (cc)
 
--- what the steps are without their numbers
-record Numbered (o : Outcome Lexeme (List StepNode)) (steps : List Step) (rest : List Lexeme) : Type 0 where
-  nodes : List StepNode
-  read_so : o ≡ Ok (nodes, rest)
-  numbered : steps ≡ numbered_from 1 nodes
+not_found : {A : Type 0} (x : A) (why : ParseFault) → ◌≡◌ {A = Result A ParseFault} (Err why) (Ok x) → ⊥
+not_found x why h = absurd (cc)
 
-ok_same : (x y : List Step × List Lexeme) (o : Outcome Lexeme (List Step)) → o ≡ Ok x → o ≡ Ok y → x ≡ y
-ok_same x y o h g = cc
+module _ (text : List ℕ) where
+  read_as : (f g : FnText) → Exact (AnswersFn text) (Ok f) → AnswersFn text (Ok g) → f ≡ g
+  read_as f g exact is = ok_is f g (exact (Ok g) is (not_memory f) (not_memory g))
 
-numbered_of : (o : Outcome Lexeme (List StepNode)) (steps : List Step) (rest : List Lexeme) → reads_steps [] 1 o ≡ Ok (steps, rest) → Numbered o steps rest
-numbered_of (Ok p) steps rest h =
-    let pairs : (numbered_from 1 p.0, p.1) ≡ (steps, rest) = ok_same (numbered_from 1 p.0, p.1) (steps, rest) (reads_steps [] 1 (Ok p)) refl h in
-    record { nodes = p.0; read_so = ap (λ us. Ok (p.0, us)) (ap (λ q. q.1) pairs); numbered = sym (ap (λ q. q.0) pairs) }
-numbered_of (Err left) steps rest h = cc
+  function_found : (f : FnText) (r : Option TypedFn) → AnswersFn text (Ok f) → Exact (AnswersFn text) (Ok f) → Finds (IsTypedAs f) r → Finds (IsTyped text) r
+  function_found f None is exact none = λ t h. none t (subst (λ (g : FnText). IsTypedAs g t) (sym (read_as f h.0 exact h.1)) h.2)
+  function_found f (Some t) is exact one = ((f, is, one.0), λ u h. one.1 u (subst (λ (g : FnText). IsTypedAs g u) (sym (read_as f h.0 exact h.1)) h.2))
 
-refused_of : (o : Outcome Lexeme (List StepNode)) (rest : List Lexeme) → reads_steps [] 1 o ≡ Err rest → o ≡ Err rest
-refused_of (Ok p) rest h = cc
-refused_of (Err left) rest h = let e : left ≡ rest = cc in ap Err e
+  pub function_read : {E : Type 0} (f : FnText) (r : Result (Option TypedFn) E) → AnswersFn text (Ok f) → Exact (AnswersFn text) (Ok f) → IfOk r (Finds (IsTypedAs f)) → IfOk r (Finds (IsTyped text))
+  function_read f (Ok r) is exact h = function_found f r is exact h
+  function_read f (Err e) is exact h = tt
 
-pub no_script : (text : List ℕ) → ((ts : List Lexeme) → HasTokens section.Script text ts → ⊥) → Finds (IsScript text) None
-no_script text bad steps s = bad s.spelled.tokens s.spelled.section_is
+  pub no_function : (why : ParseFault) → why ≢ fault.Memory → Exact (AnswersFn text) (Err why) → Finds (IsTyped text) None
+  no_function why certain exact = λ t h. not_found h.0 why (exact (Ok h.0) h.1 (λ e. certain (cc)) (not_memory h.0))
 
-pub script_found : (text : List ℕ) (ts rest : List Lexeme) (steps : List Step) → HasTokens section.Script text ts → reads_steps [] 1 (read Steps ts) ≡ Ok (steps, rest) → is_empty rest ≡ true → Finds (IsScript text) (Some steps)
-script_found text ts rest steps h r e =
-    let n = numbered_of (read Steps ts) steps rest r in
-    let f = section_found section.Script Steps text refl ts rest n.nodes h n.read_so e in
-    (record { nodes = n.nodes; spelled = f.0; numbered = n.numbered }, λ others s. s.numbered ∙ (ap (numbered_from 1) (f.1 s.nodes s.spelled) ∙ sym n.numbered))
+  -- ---- the logic
 
-pub steps_left : (text : List ℕ) (ts rest : List Lexeme) (steps : List Step) → HasTokens section.Script text ts → reads_steps [] 1 (read Steps ts) ≡ Ok (steps, rest) → is_empty rest ≡ false → Finds (IsScript text) None
-steps_left text ts rest steps h r e others s =
-    let n = numbered_of (read Steps ts) steps rest r in
-    tokens_left section.Script Steps text refl ts rest n.nodes h n.read_so e s.nodes s.spelled
+  logic_as : (x y : LogicText) → Exact (AnswersLogic text) (Ok x) → AnswersLogic text (Ok y) → x ≡ y
+  logic_as x y exact is = ok_is x y (exact (Ok y) is (not_memory x) (not_memory y))
 
-pub step_refused : (text : List ℕ) (ts rest : List Lexeme) → HasTokens section.Script text ts → reads_steps [] 1 (read Steps ts) ≡ Err rest → Finds (IsScript text) None
-step_refused text ts rest h r others s = token_refused section.Script Steps text refl ts rest h (refused_of (read Steps ts) rest r) s.nodes s.spelled
+  some_is : {A : Type 0} (a b : A) → Some a ≡ Some b → a ≡ b
+  some_is a b h = cc
 
-pub finds_script : (text : List ℕ) (ts left : List Lexeme) (outcome : Result (List Step) Stop) → HasTokens section.Script text ts → Reads (reads_steps [] 1 (read Steps ts)) outcome left
-    → (found : Option (List Step)) → Gives outcome left found → Finds (IsScript text) found
-finds_script text ts left (Ok steps) h r found g = by_test (is_empty left) refl found g
-  where
-    by_test : (b : Bool) → is_empty left ≡ b → (o : Option (List Step)) → o ≡ (if b then Some steps else None) → Finds (IsScript text) o
-    by_test true e o g = rw g (script_found text ts left steps h r e)
-    by_test false e o g = rw g (steps_left text ts left steps h r e)
-finds_script text ts left (Err Refused) h r found g = rw g (step_refused text ts left h r)
-finds_script text ts left (Err Memory) h r found g = absurd g
+  none_is : {A : Type 0} (a : A) → ◌≡◌ {A = Option A} None (Some a) → ⊥
+  none_is a h = absurd (cc)
 
--- ---- over the code's values
+  found_in : {A : Type 0} (look : LogicText → Option A) (x : LogicText) (o : Option A) → o ≡ look x → AnswersLogic text (Ok x) → Exact (AnswersLogic text) (Ok x) → Finds (Says look text) o
+  found_in look x None e is exact = λ a h. none_is a (e ∙ (ap look (logic_as x h.0 exact h.1) ∙ h.2))
+  found_in look x (Some a) e is exact = ((x, is, sym e), λ b h. some_is b a (sym (e ∙ (ap look (logic_as x h.0 exact h.1) ∙ h.2))))
 
-module _ (section : Section) (S : Phrase) (may_end : follows S End ≡ true) (text bytes : List ℕ) (same : bytes ≡ text) where
-  pub none_found : (o : Option (Vec Token Global)) → o ≡ None → MatchOption o ((ts : List Lexeme) → HasTokens section bytes ts → ⊥) (λ v. HasTokens section bytes (lexemes_of v.items)) → Finds (Spells section S text) None
-  none_found o e h = no_section section S text (subst (λ b. (ts : List Lexeme) → HasTokens section b ts → ⊥) same (rw e at h))
+  pub said : {A : Type 0} (look : LogicText → Option A) (x : LogicText) (o : Option A) → o ≡ look x → AnswersLogic text (Ok x) → Exact (AnswersLogic text) (Ok x) → Finds (Says look text) o
+  said look x o e is exact = found_in look x o e is exact
 
-  pub read_whole : (o : Option (Vec Token Global)) (v : Vec Token Global) (slice : List Token) (ts left : List Lexeme) (outcome : Result (Value S) Stop) → o ≡ Some v
-      → MatchOption o ((us : List Lexeme) → HasTokens section bytes us → ⊥) (λ w. HasTokens section bytes (lexemes_of w.items))
-      → slice ≡ v.items → ts ≡ lexemes_of slice → Reads (read S ts) outcome left → (found : Option (Value S)) → Gives outcome left found → Finds (Spells section S text) found
-  read_whole o v slice ts left outcome e h cut made r =
-      let tokens : HasTokens section text ts = rw (made, cut) (subst (λ b. HasTokens section b (lexemes_of v.items)) same (rw e at h)) in
-      finds section S text may_end ts left outcome tokens r
+  pub unsaid : {A : Type 0} (look : LogicText → Option A) (why : ParseFault) → why ≢ fault.Memory → Exact (AnswersLogic text) (Err why) → Finds (Says look text) None
+  unsaid look why certain exact = λ a h. not_found h.0 why (exact (Ok h.0) h.1 (λ e. certain (cc)) (not_memory h.0))
 
-module _ (text bytes : List ℕ) (same : bytes ≡ text) where
-  pub no_script_found : (o : Option (Vec Token Global)) → o ≡ None → MatchOption o ((ts : List Lexeme) → HasTokens section.Script bytes ts → ⊥) (λ v. HasTokens section.Script bytes (lexemes_of v.items)) → Finds (IsScript text) None
-  no_script_found o e h = no_script text (subst (λ b. (ts : List Lexeme) → HasTokens section.Script b ts → ⊥) same (rw e at h))
+  -- ---- names
 
-  pub read_steps : (o : Option (Vec Token Global)) (v : Vec Token Global) (slice : List Token) (ts left : List Lexeme) (outcome : Result (List Step) Stop) → o ≡ Some v
-      → MatchOption o ((us : List Lexeme) → HasTokens section.Script bytes us → ⊥) (λ w. HasTokens section.Script bytes (lexemes_of w.items))
-      → slice ≡ v.items → ts ≡ lexemes_of slice → Reads (reads_steps [] 1 (read Steps ts)) outcome left → (found : Option (List Step)) → Gives outcome left found → Finds (IsScript text) found
-  read_steps o v slice ts left outcome e h cut made r =
-      let tokens : HasTokens section.Script text ts = rw (made, cut) (subst (λ b. HasTokens section.Script b (lexemes_of v.items)) same (rw e at h)) in
-      finds_script text ts left outcome tokens r
+  listed_is : (xs ys : List Mention) → ◌≡◌ {A = Result (List Mention) ℕ} (Ok xs) (Ok ys) → xs ≡ ys
+  listed_is xs ys h = cc
+
+  none_listed : (xs : List Mention) (place : ℕ) → ◌≡◌ {A = Result (List Mention) ℕ} (Ok xs) (Err place) → ⊥
+  none_listed xs place h = absurd (cc)
+
+  names_found : (xs : List Mention) (names : List (List ℕ)) → IsListing text (Ok xs) → names ≡ map (λ m. m.name) xs → Finds (IsNames text) (Some names)
+  names_found xs names is e = ((xs, is, e), λ others h. h.2 ∙ (ap (map (λ (m : Mention). m.name)) (listed_is h.0 xs (one_listing text (Ok h.0) (Ok xs) h.1 is)) ∙ sym e))
+
+  pub names_read : {E : Type 0} (xs : List Mention) (r : Result (Option (List (List ℕ))) E) → IsListing text (Ok xs) → IfOk r (λ names. names ≡ Some (map (λ m. m.name) xs)) → IfOk r (Finds (IsNames text))
+  names_read xs (Ok r) is h = subst (Finds (IsNames text)) (sym h) (names_found xs (map (λ m. m.name) xs) is refl)
+  names_read xs (Err e) is h = tt
+
+  pub no_names : (place : ℕ) → ((header content : List ℕ) → IsCut text header content → IsListing text (Err place)) → Finds (IsNames text) None
+  no_names place faulty = λ names h. none_listed h.0 place (one_listing text (Ok h.0) (Err place) h.1 (faulty h.1.header h.1.content h.1.is_cut))

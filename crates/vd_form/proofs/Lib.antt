@@ -1,7 +1,1 @@
-pub mod Laws
-pub mod Numbering
-pub mod Cuts
-pub mod Fitting
-pub mod Passing
-pub mod OneSection
 pub mod Finding

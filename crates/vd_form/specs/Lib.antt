@@ -1,11 +1,3 @@
-pub mod Lexeme
-pub mod Kinds
-pub mod Words
-pub mod Nesting
-pub mod Grammar
-pub mod Reading
+pub mod Plain
+pub mod Simple
 pub mod Sections
-pub mod Cursor
-pub mod Passing
-pub mod Numbering
-pub mod Ending

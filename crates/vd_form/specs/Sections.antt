@@ -1,72 +1,65 @@
--- What the sections of the form are.
-use Rattle.std.specs.Prelude.{◌≡◌, ◌⊎◌, ◌+◌, ℕ, true, min, List, [], ◌∷◌, ◌++◌, length, map, codes, Option, None, Some}
+-- What the sections of the form are: those of the readers and of typing, with what the form allows.
+use Rattle.std.specs.Prelude.{◌≡◌, ℕ, true, List, [], ◌∷◌, map, if◌then◌else◌, Option, None, Some, Ok}
+use Rattle.vd_clight.specs.declared.program.CScope.{CScope}
 use Rattle.vd_clight.specs.declared.syntax.FnText.{FnText}
+use Rattle.vd_clight.specs.declared.typed.TypedFn.{TypedFn}
+use Rattle.vd_cparse.specs.Section.{AnswersFn}
+use Rattle.vd_ctyping.specs.Typing as typing
+use Rattle.vd_heads.specs.declared.content.Mention.{Mention}
+use Rattle.vd_listing.specs.Listing.{IsListing}
 use Rattle.vd_logic.specs.declared.assertion.Spec.{Spec}
 use Rattle.vd_logic.specs.declared.step.Step.{Step}
-use Rattle.vd_logic.specs.declared.step.StepNode.{StepNode}
-use Rattle.vd_grammar.specs.Grammar.{Is}
-use Rattle.vd_tokens.specs.declared.token.End.TheVariants as last
-use Rattle.vd_tokens.specs.Lexeme.{Lexeme as Token}
-use Rattle.vd_tokens.specs.Text.{Tokenizes}
-use Rattle.vd_form.specs.declared.section.Section.{Section}
-use Rattle.vd_form.specs.declared.section.Section.TheVariants as section
-use Rattle.vd_form.specs.Lexeme.{Lexeme}
-use Rattle.vd_form.specs.Words.{header, alphabet, lexeme_in}
-use Rattle.vd_form.specs.Nesting.{is_shallow}
-use Rattle.vd_form.specs.Grammar.{Phrase, Value}
-use Rattle.vd_form.specs.Grammar.{Function, Specification, Steps, Names}
-use Rattle.vd_form.specs.Reading.{grammar}
+use Rattle.vd_sparse.specs.declared.text.LogicText.{LogicText}
+use Rattle.vd_sparse.specs.declared.text.LogicText.TheVariants as logic
+use Rattle.vd_sparse.specs.Sections.{AnswersLogic}
+use Rattle.vd_form.specs.Plain.{is_plain_function, is_plain_spec, are_plain_steps}
+use Rattle.vd_form.specs.Simple.{is_simple_function}
 
 -- the one value of which P holds, or none
 abbrev pub Finds : {A : Type 0} → (A → Type 0) → Option A → Type 0
 Finds {A} P None = (a : A) → P a → ⊥
 Finds {A} P (Some a) = P a × ((b : A) → P b → b ≡ a)
 
--- a line with its line feed
-abbrev pub line : List ℕ → List ℕ
-line bytes = bytes ++ 10 ∷ []
+-- ---- functions
 
--- the bytes are whole lines
-abbrev pub AreLines : List ℕ → Type 0
-AreLines bytes = (bytes ≡ []) ⊎ ((front : List ℕ) × (bytes ≡ line front))
+-- the scope of a unit that declares no struct and no global, and this function alone
+abbrev pub own_scope : FnText → CScope
+own_scope f = record { structs = []; globals = []; fns = record { ret = f.ret; name = f.name; params = f.params } ∷ [] }
 
--- The text is a header line, lines with these tokens, and the line `end`. No token is nested too deeply.
--- A token's place is counted from the header line's first byte. (That no line between them is `end` is the outline's matter.)
-pub record HasTokens (section : Section) (text : List ℕ) (ts : List Lexeme) : Type 0 where
-  pub content : List ℕ
-  pub tokens : List Token
-  pub place : ℕ
-  pub cut : text ≡ line (header section) ++ (content ++ line (codes "end"))
-  pub lines : AreLines content
-  pub tokenized : Tokenizes (alphabet section) (length (line (header section))) content tokens (last.Text place)
-  pub lexemes : ts ≡ map (lexeme_in section) tokens
-  pub shallow : is_shallow ts ≡ true
+-- The function has the form, and this is its typed syntax.
+pub record IsTypedAs (f : FnText) (t : TypedFn) : Type 0 where
+  pub plain : is_plain_function f ≡ true
+  pub typed : typing.IsTyped (own_scope f) f t
+  pub simple : is_simple_function t ≡ true
 
--- The section's tokens are spelled by the grammar, and this is their syntax.
-pub record Spells (section : Section) (S : Phrase) (text : List ℕ) (syntax : Value S) : Type 0 where
-  pub tokens : List Lexeme
-  pub section_is : HasTokens section text tokens
-  pub spelled : Is grammar S tokens syntax
+-- the text is the `fn` section of a function of the form, and this is its typed syntax
+abbrev pub IsTyped : List ℕ → TypedFn → Type 0
+IsTyped text t = (f : FnText) × AnswersFn text (Ok f) × IsTypedAs f t
 
--- the text is a `fn` section of this function
-abbrev pub IsFunction : List ℕ → FnText → Type 0
-IsFunction text f = Spells section.Function Function text f
+-- ---- specifications, scripts
 
--- the text is a `spec` section of this specification
+-- the specification that a section says, where it has the form
+abbrev pub spec_in : LogicText → Option Spec
+spec_in (logic.Spec s hides) = if is_plain_spec s then Some s else None
+spec_in _ = None
+
+-- the steps that a section says, where they have the form
+abbrev pub steps_in : LogicText → Option (List Step)
+steps_in (logic.Script own steps) = if are_plain_steps steps then Some steps else None
+steps_in _ = None
+
+-- the text is a section of the logic, and this is what is looked for in what it says
+abbrev pub Says : {A : Type 0} → (LogicText → Option A) → List ℕ → A → Type 0
+Says look text a = (x : LogicText) × AnswersLogic text (Ok x) × (look x ≡ Some a)
+
 abbrev pub IsSpecification : List ℕ → Spec → Type 0
-IsSpecification text s = Spells section.Specification Specification text s
+IsSpecification = Says spec_in
 
--- steps with their numbers, of which the last one stays
-abbrev pub numbered_from : ℕ → List StepNode → List Step
-numbered_from n [] = []
-numbered_from n (node ∷ nodes) = record { number = n; node = node } ∷ numbered_from (min (n + 1) 4294967295) nodes
+abbrev pub IsScript : List ℕ → List Step → Type 0
+IsScript = Says steps_in
 
--- the text is a `script` section of these steps
-pub record IsScript (text : List ℕ) (steps : List Step) : Type 0 where
-  pub nodes : List StepNode
-  pub spelled : Spells section.Script Steps text nodes
-  pub numbered : steps ≡ numbered_from 1 nodes
+-- ---- names
 
--- the text is a `units` section of these names
+-- the text is the `units` section of these names
 abbrev pub IsNames : List ℕ → List (List ℕ) → Type 0
-IsNames text names = Spells section.Names Names text names
+IsNames text names = (listed : List Mention) × IsListing text (Ok listed) × (names ≡ map (λ m. m.name) listed)

@@ -1,107 +1,64 @@
-//! Functions.
+//! Functions of the form.
 
-ghost use Rattle.std.specs.Prelude.{◌≡◌, ◌≤◌, ◌<◌, length, OnOk};
-ghost use Rattle.vd_grammar.specs.Reads.{Reads};
-ghost use Rattle.vd_form.specs.Grammar.{Phrase, Rule};
-ghost use Rattle.vd_form.specs.Reading.{read, read_rule};
+ghost use Rattle.std.specs.Prelude.{◌≡◌, IfOk};
+ghost use Rattle.vd_form.specs.Sections.{Finds, IsTyped, IsTypedAs, own_scope};
 
-use crate::expression::expression;
-use crate::kind::{Class, Kind};
-use crate::signature::signature;
-use crate::token::{Tokens, main_name, name_of};
-use std::alloc::Global;
-use vd_base::{CType, Field, List};
-use vd_clight::{Expr, ExprNode, FnText, Stmt, StmtNode};
-use vd_grammar::Stop;
+use crate::plain::is_plain_function;
+use crate::simple::is_simple_function;
+use std::alloc::{AllocError, Global};
+use vd_base::{List, Structs, Text, copy_fields};
+use vd_clight::{CScope, FnText, Signature, TypedFn};
+use vd_cparse::parse_section;
+use vd_ctyping::{TypeFault, type_fn, typing_laws};
+use vd_grammar::ParseFault;
 
-#[tactic(auto, using(crate::proofs::Laws::read_is, vd_grammar::specs::Loops::fronts))]
-fn declarations(alloc: Global, tokens: &mut Tokens<'_>) -> Result<List<Field>, Stop>
-    ensures reads { Reads (read Phrase.Declarations tokens.old) result tokens.new }
+fn own_scope(alloc: Global, f: &FnText) -> Result<CScope, AllocError>
+    ensures { IfOk result (λ scope. scope ≡ own_scope f.now) }
 {
-    let mut found = List::new(alloc);
-    'found: while tokens.sees(Class::One(Kind::Int)) {
-        tokens.take(Kind::Int)?;
-        let name = tokens.name()?;
-        tokens.take(Kind::Semicolon)?;
-        let name = name_of(alloc, name)?;
-        found.push(Field {
-            name,
-            typ: CType::Int,
-        })?;
-    }
-    Ok(found)
-}
-
-fn assignment(alloc: Global, tokens: &mut Tokens<'_>) -> Result<Stmt, Stop>
-    ensures reads { Reads (read_rule Rule.assign tokens.old) result tokens.new }
-    ensures shorter { OnOk result (length tokens.new < length tokens.old) }
-{
-    let name = tokens.name()?;
-    tokens.take(Kind::Equals)?;
-    let value = expression(alloc, tokens)?;
-    tokens.take(Kind::Semicolon)?;
-    let place = name.place;
-    let target = Expr {
-        place,
-        node: ExprNode::Ident(name_of(alloc, name)?),
-    };
-    Ok(Stmt {
-        place,
-        node: StmtNode::Assign(target, value),
+    let ret = f.ret.copy(alloc)?;
+    let name = f.name.copy(alloc)?;
+    let params = copy_fields(alloc, &f.params)?;
+    let mut fns = List::new(alloc);
+    fns.push(Signature { ret, name, params })?;
+    Ok(CScope {
+        structs: Structs::new(alloc),
+        globals: List::new(alloc),
+        fns,
     })
 }
 
-fn return_value(alloc: Global, tokens: &mut Tokens<'_>) -> Result<Stmt, Stop>
-    ensures reads { Reads (read_rule Rule.return tokens.old) result tokens.new }
-    ensures shorter { OnOk result (length tokens.new < length tokens.old) }
+/// The typed function, where the function and it have the form.
+fn typed_as(alloc: Global, f: &FnText) -> Result<Option<TypedFn>, AllocError>
+    ensures { IfOk result (Finds (IsTypedAs f.now)) }
 {
-    let word = tokens.take(Kind::Return)?;
-    let value = expression(alloc, tokens)?;
-    tokens.take(Kind::Semicolon)?;
-    Ok(Stmt {
-        place: word.place,
-        node: StmtNode::Return(Some(value)),
-    })
-}
-
-#[tactic(auto, using(crate::proofs::Laws::read_is))]
-fn statement(alloc: Global, tokens: &mut Tokens<'_>) -> Result<Stmt, Stop>
-    ensures reads { Reads (read Phrase.Statement tokens.old) result tokens.new }
-    ensures shorter { OnOk result (length tokens.new < length tokens.old) }
-{
-    if tokens.sees(Class::One(Kind::Return)) {
-        return_value(alloc, tokens)
-    } else {
-        assignment(alloc, tokens)
+    typing_laws();
+    if !is_plain_function(f) {
+        return Ok(None);
+    }
+    let scope = own_scope(alloc, f)?;
+    match type_fn(alloc, &scope, f) {
+        Ok(typed) => {
+            if is_simple_function(&typed) {
+                Ok(Some(typed))
+            } else {
+                Ok(None)
+            }
+        }
+        Err(TypeFault::Memory) => Err(AllocError),
+        Err(TypeFault::Unknown(_, _)) => Ok(None),
+        Err(TypeFault::Mismatch(_, _, _)) => Ok(None),
+        Err(TypeFault::NotNormal(_)) => Ok(None),
     }
 }
 
-#[tactic(auto, using(crate::proofs::Laws::read_is, vd_grammar::specs::Loops::fronts))]
-fn statements(alloc: Global, tokens: &mut Tokens<'_>) -> Result<List<Stmt>, Stop>
-    ensures reads { Reads (read Phrase.Statements tokens.old) result tokens.new }
+/// The typed function of a `fn` section, where the section has the form.
+pub fn read_typed(alloc: Global, section: &Text) -> Result<Option<TypedFn>, AllocError>
+    ensures { IfOk result (Finds (IsTyped section.now)) }
 {
-    let mut found = List::new(alloc);
-    'found: while !tokens.sees(Class::One(Kind::RightBrace)) {
-        found.push(statement(alloc, tokens)?)?;
+    match parse_section(alloc, section) {
+        Ok(function) => typed_as(alloc, &function),
+        Err(ParseFault::Memory) => Err(AllocError),
+        Err(ParseFault::Bad(_)) => Ok(None),
+        Err(ParseFault::Deep(_)) => Ok(None),
     }
-    Ok(found)
-}
-
-/// A function: its signature, its declarations and its statements.
-#[tactic(auto, using(crate::proofs::Laws::read_is))]
-pub fn function(alloc: Global, tokens: &mut Tokens<'_>) -> Result<FnText, Stop>
-    ensures reads { Reads (read Phrase.Function tokens.old) result tokens.new }
-{
-    signature(tokens)?;
-    tokens.take(Kind::LeftBrace)?;
-    let temps = declarations(alloc, tokens)?;
-    let body = statements(alloc, tokens)?;
-    tokens.take(Kind::RightBrace)?;
-    Ok(FnText {
-        ret: CType::Int,
-        name: main_name(alloc)?,
-        params: List::new(alloc),
-        temps,
-        body,
-    })
 }

@@ -1,5 +1,5 @@
 use Rattle.vd_outline.specs.declared.section.SectionKind.TheVariants as section
-use Rattle.vd_check.specs.Form.{IsTyped}
+use Rattle.vd_form.specs.Sections.{IsTyped}
 use Rattle.vd_check.specs.Form.{main}
 use Rattle.vd_check.proofs.Forms.{under_read}
 use Rattle.vd_check.proofs.form.typed_of.Goals as goal
