@@ -1,5 +1,5 @@
 -- An expression whose symbolic value is proved evaluates to it.
-use Rattle.std.proofs.Common.{◌≡◌, ◌≢◌, ℕ, zero, suc, ◌+◌, ◌-◌, ◌<◌, ◌≤◌, ◌%◌, ◌^◌, Bool, true, false, ◌&&◌, cond, List, [], ◌∷◌, ◌++◌, Option, None, Some, Result, Ok, Err, refl, sym, ◌∙◌, ap, subst, arith, slice_get, slice_set, nat_lt, int_le, ℤ, pos, negsuc, ◌+ℤ◌, ◌-ℤ◌}
+use Rattle.std.proofs.Common.{◌≡◌, ℕ, zero, suc, Bool, true, false, ◌&&◌, List, [], ◌∷◌, ◌++◌, Option, None, Some, Result, Ok, refl, sym, ◌∙◌, ap, subst, arith, slice_get, slice_set, nat_lt, ℤ, pos, ◌+ℤ◌, ◌-ℤ◌}
 use Rattle.std.specs.List.{list_all}
 use Rattle.std.proofs.lemmas.Bool.Decides.{nat_tests}
 use Rattle.std.proofs.lemmas.List.Folds.{list_all-append}
@@ -12,8 +12,7 @@ use Rattle.vd_clight.specs.declared.typed.Part.{Part, fold-Part}
 use Rattle.vd_clight.specs.declared.typed.Part.TheOpen as expression
 use Rattle.vd_clight.specs.declared.typed.Lval.{Lval}
 use Rattle.vd_clight.specs.declared.typed.TExpr.{TExpr, TExpr-F, ind-TExpr, map-TExpr, roll-TExpr, fold-roll-TExpr}
-use Rattle.vd_mem.specs.declared.value.Value.{Value as Word}
-use Rattle.vd_mem.specs.declared.value.Value.TheVariants.{Undef, Int, Ptr}
+use Rattle.vd_mem.specs.declared.value.Value.TheVariants.{Int}
 use Rattle.vd_mem.specs.Word.{signed}
 use Rattle.vd_machine.specs.declared.answer.Cause.{Cause}
 use Rattle.vd_machine.specs.Arithmetic.{Evaluated, arithmetic, binary}

@@ -1,5 +1,5 @@
 -- What an accepted outcome promises.
-use Rattle.std.proofs.Common.{◌≡◌, ℕ, Bool, true, false, ◌&&◌, List, [], ◌∷◌, Option, Some, refl, sym, ◌∙◌, ap, subst}
+use Rattle.std.proofs.Common.{◌≡◌, ℕ, true, List, Some, sym, ◌∙◌, ap}
 use Rattle.vd_form.specs.Sections.{Finds}
 use Rattle.vd_check.specs.declared.form.Pair.{Pair}
 use Rattle.vd_check.specs.declared.form.UnitParts.{UnitParts}
@@ -10,7 +10,6 @@ use Rattle.vd_store.specs.declared.work.Verdict.{Verdict}
 use Rattle.vd_store.specs.declared.work.Verdict.TheVariants.{Accepted, Refused}
 use Rattle.vd_check.specs.Form.{Entry, AreTexts}
 use Rattle.vd_check.specs.Report.{are_accepted}
-use Rattle.vd_store.specs.Verdicts.{is_accepted}
 use Rattle.vd_check.specs.Script.{HasVerdict}
 use Rattle.vd_check.specs.Scratch.{findings_of, AreFindings, Gives}
 use Rattle.vd_check.specs.Safety.{IsSafeFor, HasSafeProgram, Promises}

@@ -1,8 +1,7 @@
 -- An accepted body is safe: each state that a run reaches stands at a node of the good script.
-use Rattle.std.proofs.Common.{◌≡◌, ℕ, zero, suc, ◌+◌, ◌-◌, ◌<◌, Bool, true, false, ◌&&◌, ◌⊎◌, inl, inr, List, [], ◌∷◌, ◌++◌, length, map, replicate, Option, None, Some, Ok, Err, option_map, refl, sym, ◌∙◌, ap, subst, arith, slice_get, slice_set, cond, if◌then◌else◌}
+use Rattle.std.proofs.Common.{◌≡◌, ℕ, zero, suc, ◌-◌, Bool, true, false, ◌&&◌, ◌⊎◌, inl, inr, List, [], ◌∷◌, length, map, replicate, Option, None, Some, Ok, option_map, refl, sym, ap, subst, arith, slice_set, if◌then◌else◌}
 use Rattle.std.specs.List.{list_all}
 use Rattle.std.proofs.lemmas.Bool.{eqb-true}
-use Rattle.vd_clight.specs.declared.program.Program.{Program}
 use Rattle.vd_clight.specs.declared.typed.TExpr.{TExpr}
 use Rattle.vd_clight.specs.declared.typed.TStmt.{TStmt, TStmt-F, out-TStmt}
 use Rattle.vd_clight.specs.declared.typed.TStmt.TheOpen as statement
@@ -18,15 +17,13 @@ use Rattle.vd_logic.specs.declared.term.Op.TheVariants as op
 use Rattle.vd_logic.specs.declared.term.Sort.TheVariants as sort
 use Rattle.vd_logic.specs.declared.term.Term.{Term, Term-F, out-Term}
 use Rattle.vd_logic.specs.declared.term.Term.TheOpen as term
-use Rattle.vd_mem.specs.declared.value.Value.{Value as Word}
-use Rattle.vd_mem.specs.declared.value.Value.TheVariants.{Undef, Int, Ptr}
+use Rattle.vd_mem.specs.declared.value.Value.TheVariants.{Undef, Int}
 use Rattle.vd_machine.specs.declared.answer.Turn.{Turn}
-use Rattle.vd_machine.specs.Evaluation.{Temps, temp, eval}
-use Rattle.vd_machine.specs.Thread.{Thread, Running, Ended, Frame, System}
-use Rattle.vd_machine.specs.Run.{Last, Open, Main, Bad, run, run_on, turn}
-use Rattle.vd_machine.specs.Race.{Races, RaceAt, TouchesAt}
-use Rattle.vd_machine.specs.Safe.{IsFine, IsSafe}
-use Rattle.vd_machine.specs.Start.{first_system}
+use Rattle.vd_machine.specs.Evaluation.{Temps, eval}
+use Rattle.vd_machine.specs.Thread.{Thread, Running, System}
+use Rattle.vd_machine.specs.Run.{run, run_on, turn}
+use Rattle.vd_machine.specs.Race.{RaceAt, TouchesAt}
+use Rattle.vd_machine.specs.Safe.{IsFine}
 use Rattle.vd_check.specs.Value.{Value, Locals, value, is_proved}
 use Rattle.vd_check.specs.Script.{Node, Applied, Children, Refused, apply, set_to, set_first, set_rule, return_with, return_first, return_rule, meets, is_evident, are_equal, side_layer, side, IsGood, ends, goes, entry}
 use Rattle.vd_check.specs.Meaning.{meaning_layer, meaning, IsTrue, AreTrue, Satisfies}

@@ -1,5 +1,5 @@
 -- What postconditions of the form mean: the terms are integers, and no memory is owned.
-use Rattle.std.specs.Prelude.{◌≡◌, ℕ, zero, ◌%◌, ◌^◌, pos, List, [], ◌∷◌, Option, None, Some, option_map}
+use Rattle.std.specs.Prelude.{◌≡◌, zero, List, [], ◌∷◌, Option, None, Some, option_map}
 use Rattle.vd_logic.specs.declared.assertion.Assertion.{Assertion}
 use Rattle.vd_logic.specs.declared.assertion.Prop.{Prop}
 use Rattle.vd_logic.specs.declared.assertion.Prop.TheVariants as prop

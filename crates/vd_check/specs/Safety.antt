@@ -1,5 +1,5 @@
 -- What an accepted check promises: the program of the texts is whole, and safe under every schedule.
-use Rattle.std.specs.Prelude.{◌≡◌, ℕ, true, List, [], ◌∷◌, Some}
+use Rattle.std.specs.Prelude.{◌≡◌, ℕ, true, List, [], ◌∷◌}
 use Rattle.vd_clight.specs.declared.program.Program.{Program}
 use Rattle.vd_clight.specs.declared.typed.TypedFn.{TypedFn}
 use Rattle.vd_clight.specs.Whole.{is_whole}

@@ -1,6 +1,6 @@
 -- Symbolic values of expressions, and what they owe. A value of the form is always a closed `vi(n)`: in normal form n is
 -- a natural number below 2^32.
-use Rattle.std.specs.Prelude.{ℕ, ◌-◌, ◌%◌, ◌^◌, ℤ, pos, negsuc, ◌+ℤ◌, ◌-ℤ◌, int_le, Bool, ◌&&◌, List, [], ◌∷◌, ◌++◌, Option, None, Some, slice_get}
+use Rattle.std.specs.Prelude.{ℕ, ℤ, pos, ◌+ℤ◌, ◌-ℤ◌, Bool, List, [], ◌∷◌, ◌++◌, Option, None, Some, slice_get}
 use Rattle.std.specs.List.{list_all}
 use Rattle.vd_clight.specs.declared.syntax.BinOp.{BinOp}
 use Rattle.vd_clight.specs.declared.syntax.BinOp.TheVariants as op
