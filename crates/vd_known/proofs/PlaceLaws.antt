@@ -1,6 +1,6 @@
 -- The place of the last own section that declares a name, by the places of its declarations.
-use Rattle.std.proofs.Common.{◌≡◌, ◌==◌, ℕ, zero, suc, ◌+◌, ◌<◌, Bool, true, false, cond, List, [], ◌∷◌, ◌++◌, Some, refl, ap, sym, ◌∙◌, arith, add-zero, zero-add, eq-eqb}
-use Rattle.std.proofs.lemmas.Bool.Decides.{nat_tests}
+use Rattle.std.proofs.Common.{◌≡◌, ℕ, zero, suc, ◌+◌, ◌<◌, Bool, true, false, cond, List, [], ◌∷◌, ◌++◌, Some, refl, ap, sym, ◌∙◌, arith, add-zero, zero-add, eq-eqb}
+use Rattle.std.proofs.lemmas.Bool.{ne_eqb}
 use Rattle.std.specs.List.{slice_get}
 use Rattle.std.specs.Option.{option_map, unwrap_or}
 use Rattle.vd_heads.specs.declared.content.HeadSection.{HeadSection}
@@ -17,15 +17,9 @@ last_append : (v : View) (place : ℕ) (xs ys : List Spot) → last_own v place 
 last_append v place [] ys = refl
 last_append v place (x ∷ xs) ys = last_append v (place_after v place x) xs ys
 
-apart : (a b : ℕ) → (a ≡ b → ⊥) → a == b ≡ false
-apart a b n = go (a == b) refl where
-  go : (t : Bool) → a == b ≡ t → t ≡ false
-  go false e = refl
-  go true e = absurd (n (grind (arith, nat_tests)))
-
 after_other : (v : View) (place k i : ℕ) → (k ≡ v.own → ⊥) → place_after v place (record { part = k; section = i }) ≡ place
 unfolding place_after
-after_other v place k i n = ap (λ b. cond b (unwrap_or (option_map (λ h. h.place) (slice_get (sections_in (slice_get v.parts.now v.own)) i)) place) place) (apart k v.own n)
+after_other v place k i n = ap (λ b. cond b (unwrap_or (option_map (λ h. h.place) (slice_get (sections_in (slice_get v.parts.now v.own)) i)) place) place) (ne_eqb k v.own n)
 
 after_own : (v : View) (place k i : ℕ) (h : HeadSection) → k ≡ v.own → slice_get (sections_in (slice_get v.parts.now v.own)) i ≡ Some h → place_after v place (record { part = k; section = i }) ≡ h.place
 unfolding place_after

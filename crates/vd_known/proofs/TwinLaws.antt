@@ -1,5 +1,6 @@
 -- Two fields of one name, found one after the other.
 use Rattle.std.proofs.Common.{◌≡◌, ℕ, ◌+◌, ◌<◌, Bool, true, false, ◌||◌, List, [], ◌∷◌, ◌++◌, length, take, drop, get_or, refl, ap, sym, ◌∙◌}
+use Rattle.std.proofs.lemmas.Bool.{or_right}
 use Rattle.std.proofs.lemmas.Cmp.{nat_list_eq_equiv}
 use Rattle.std.proofs.lemmas.List.{take_more, take-append-drop, map-append}
 use Rattle.std.proofs.lemmas.List.Folds.{list_any-append}
@@ -39,13 +40,9 @@ twins_front (x ∷ xs) ys e = either_true (list_any (λ g. bytes_eq x.name g.nam
 twins_next : (xs : List Field) (i : ℕ) (y : Field) → i < length xs → y ≡ get_or xs i y → have_twins (take (i + 1) xs) ≡ have_twins (take i xs) || list_any (bytes_eq y.name) (field_names (take i xs))
 twins_next xs i y below at = ap have_twins (take_more xs i y below ∙ ap (λ z. take i xs ++ z ∷ []) (sym at)) ∙ twins_snoc (take i xs) y
 
-or_true : (a b : Bool) → b ≡ true → a || b ≡ true
-or_true true b e = refl
-or_true false b e = e
-
 pub twins_found : (xs : List Field) (i : ℕ) (y : Field) (names : List (List ℕ)) → i < length xs → y ≡ get_or xs i y → names ≡ field_names (take i xs) → list_any (bytes_eq y.name) names ≡ true → true ≡ have_twins xs
 twins_found xs i y names below at same found =
-    let e : have_twins (take (i + 1) xs) ≡ true = twins_next xs i y below at ∙ or_true (have_twins (take i xs)) (list_any (bytes_eq y.name) (field_names (take i xs))) (ap (list_any (bytes_eq y.name)) (sym same) ∙ found) in
+    let e : have_twins (take (i + 1) xs) ≡ true = twins_next xs i y below at ∙ or_right (have_twins (take i xs)) (list_any (bytes_eq y.name) (field_names (take i xs))) (ap (list_any (bytes_eq y.name)) (sym same) ∙ found) in
     sym (ap have_twins (sym (take-append-drop (i + 1) xs)) ∙ twins_front (take (i + 1) xs) (drop (i + 1) xs) e)
 
 pub twins_kept : (xs : List Field) (i : ℕ) (y : Field) (names : List (List ℕ)) → i < length xs → y ≡ get_or xs i y → names ≡ field_names (take i xs) → list_any (bytes_eq y.name) names ≡ false → have_twins (take i xs) ≡ false → have_twins (take (i + 1) xs) ≡ false

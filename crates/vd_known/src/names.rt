@@ -47,6 +47,7 @@ impl<'a> Names<'a> {
         self.found.contains(name)
     }
 
+    /// The names, in their order.
     pub fn as_slice(&self) -> &[&'a [u8]]
         ensures { result.now ≡ self.now.listed }
     {
