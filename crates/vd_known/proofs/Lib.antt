@@ -1,0 +1,11 @@
+mod NameLaws
+mod Needs
+mod LeastLaws
+mod Unknown
+mod TwinLaws
+mod ClashLaws
+mod PlaceLaws
+mod LineLaws
+mod OwnLaws
+mod NamedLaws
+mod LackLaws

@@ -1,0 +1,6 @@
+use Rattle.vd_known.specs.HeaderNames.{IsIn}
+use Rattle.vd_known.proofs.NamedLaws.{NoneBefore}
+use Rattle.vd_known.proofs.completeness.has_alone.Given as goal
+
+abbrev pub invariant-loop-name : goal.invariant-loop-name
+invariant-loop-name l = NoneBefore (λ f. IsIn l.fn.bodies.functions f → ⊥) l.name-items l.name-index

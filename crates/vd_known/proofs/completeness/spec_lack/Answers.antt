@@ -1,0 +1,10 @@
+use Rattle.std.proofs.Common.{rules}
+use Rattle.vd_known.proofs.ClashLaws.{true_not_false}
+use Rattle.vd_known.proofs.LackLaws.{served_lack, unserved_lack}
+use Rattle.vd_known.proofs.completeness.spec_lack.Goals as goal
+
+pub returns-then-is_served : goal.returns-then-is_served
+returns-then-is_served c = λ lines bodies. served_lack lines c.args.view.now.parts.now c.args.view.now.own _ c.args.spec.now.name c.args.place ((c.is_served.ensures lines bodies).0 (search rules)) (search rules)
+
+pub returns-else-is_served : goal.returns-else-is_served
+returns-else-is_served c = λ lines bodies. unserved_lack lines c.args.view.now.parts.now c.args.view.now.own _ c.args.spec.now.name c.args.place (λ s. true_not_false c.is_served.result ((c.is_served.ensures lines bodies).1 s) (search rules)) (search rules)
