@@ -1,3 +1,5 @@
 pub mod Adding
 pub mod Filling
+pub mod Placing
 pub mod Reading
+pub mod Single

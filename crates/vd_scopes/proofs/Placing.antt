@@ -1,8 +1,9 @@
 -- Head sections one behind another, where the place at which the next begins is kept in 64 bits.
-use Rattle.std.proofs.Common.{◌≡◌, ◌≤◌, ◌<◌, ◌+◌, ◌-◌, ◌^◌, ℕ, Bool, true, false, cond, min, codes, List, [], ◌∷◌, ◌++◌, length, take, get_or, Result, Ok, Err, inl, inr, refl, ap, sym, ◌∙◌, subst, arith}
+use Rattle.std.proofs.Common.{◌≡◌, ◌≤◌, ◌<◌, ◌+◌, ◌-◌, ◌^◌, ℕ, Bool, true, false, cond, min, codes, All, List, [], ◌∷◌, ◌++◌, length, take, get_or, Result, Ok, Err, inl, inr, refl, ap, sym, ◌∙◌, subst, arith}
 use Rattle.std.proofs.Math.Nat.{min-eq_left, min-eq_right}
 use Rattle.std.proofs.lemmas.Bool.{cases_lt}
 use Rattle.std.proofs.lemmas.List.{take_more}
+use Rattle.std.proofs.lemmas.List.Elements.{All-get_or}
 use Rattle.vd_cparse.specs.declared.parts.Decl.{Decl}
 use Rattle.vd_cparse.specs.declared.parts.Decl.TheVariants as decl
 use Rattle.vd_grammar.specs.declared.fault.ParseFault.{ParseFault}
@@ -32,6 +33,9 @@ section_cut kind s i = record {
   cut = i.bytes ∙ ap (λ x. header_line s.kind s.name ++ 10 ∷ x) (joined-append i.lines (codes "end" ∷ []));
   one_line = lacks-header_line s.kind s.name i.named;
 }
+
+pub section_among : (kind : TextKind) (xs : List Section) (n : ℕ) (x : Section) → n < length xs → x ≡ get_or xs n x → All (IsSection kind) xs → IsSection kind x
+section_among kind xs n x below at all = subst (IsSection kind) (sym at) (All-get_or (IsSection kind) xs n x below all)
 
 -- ---- places that are told alike
 
@@ -160,10 +164,11 @@ one_read begin at next xs n x h found new below item head r place says next_is n
       alike = subst (λ b. Alike next b) (sym (ap (behind begin) e ∙ behind_more begin heads x)) (alike_next at (behind begin heads) (length x.text) next r.alike next_is);
     }
 
-pub one_left : (begin at : ℕ) (xs : List Section) (n : ℕ) (x : Section) (found : List HeadSection) → n < length xs → x ≡ get_or xs n x → is_head x.kind ≡ false → AreRead begin at (take n xs) found → AreRead begin at (take (n + 1) xs) found
-one_left begin at xs n x found below item head r =
+pub one_left : (begin at next : ℕ) (xs : List Section) (n : ℕ) (x : Section) (found new : List HeadSection) → n < length xs → x ≡ get_or xs n x → is_head x.kind ≡ false → next ≡ at → new ≡ found → AreRead begin at (take n xs) found
+    → AreRead begin next (take (n + 1) xs) new
+one_left begin at next xs n x found new below item head next_is new_is r =
     let e : head_sections (take (n + 1) xs) ≡ head_sections (take n xs) = heads_next xs n x below item ∙ ap (λ b. cond b (head_sections (take n xs) ++ x ∷ []) (head_sections (take n xs))) head in
     record {
-      said = subst (λ ss. AllSay begin ss found) (sym e) r.said;
-      alike = subst (λ ss. Alike at (behind begin ss)) (sym e) r.alike;
+      said = subst (λ ss. AllSay begin ss new) (sym e) (subst (λ hs. AllSay begin (head_sections (take n xs)) hs) (sym new_is) r.said);
+      alike = subst (λ ss. Alike next (behind begin ss)) (sym e) (subst (λ k. Alike k (behind begin (head_sections (take n xs)))) (sym next_is) r.alike);
     }
