@@ -1,9 +1,10 @@
--- Head sections one behind another, where the place at which the next begins is kept in 64 bits.
-use Rattle.std.proofs.Common.{◌≡◌, ◌≤◌, ◌<◌, ◌+◌, ◌-◌, ◌^◌, ℕ, Bool, true, false, cond, min, codes, All, List, [], ◌∷◌, ◌++◌, length, take, get_or, Result, Ok, Err, inl, inr, refl, ap, sym, ◌∙◌, subst, arith}
+-- Head parts: their sections one behind another, where the place at which the next begins is kept in 64 bits, and texts without an outline.
+use Rattle.std.proofs.Common.{◌≡◌, ◌≤◌, ◌<◌, ◌+◌, ◌-◌, ◌^◌, ℕ, Bool, true, false, cond, min, codes, All, List, [], ◌∷◌, ◌++◌, length, take, get_or, Some, Result, Ok, Err, IfOk, inl, inr, refl, ap, sym, ◌∙◌, subst, arith}
 use Rattle.std.proofs.Math.Nat.{min-eq_left, min-eq_right}
 use Rattle.std.proofs.lemmas.Bool.{cases_lt}
-use Rattle.std.proofs.lemmas.List.{take_more}
+use Rattle.std.proofs.lemmas.List.{take_more, length_push}
 use Rattle.std.proofs.lemmas.List.Elements.{All-get_or}
+use Rattle.std.proofs.lemmas.Result.{IfOk-weaker}
 use Rattle.vd_cparse.specs.declared.parts.Decl.{Decl}
 use Rattle.vd_cparse.specs.declared.parts.Decl.TheVariants as decl
 use Rattle.vd_grammar.specs.declared.fault.ParseFault.{ParseFault}
@@ -12,19 +13,22 @@ use Rattle.vd_heads.specs.declared.content.Content.{Content}
 use Rattle.vd_heads.specs.declared.content.Content.TheVariants as content
 use Rattle.vd_heads.specs.declared.content.HeadSection.{HeadSection}
 use Rattle.vd_heads.specs.declared.content.Mention.{Mention}
+use Rattle.vd_heads.specs.declared.content.Part.{Part}
 use Rattle.vd_heads.specs.HeadPart.{is_head, head_sections}
 use Rattle.vd_listing.specs.Listing.{IsCut}
+use Rattle.vd_outline.specs.declared.outline.Outline.{Outline}
 use Rattle.vd_outline.specs.declared.outline.TextKind.{TextKind}
 use Rattle.vd_outline.specs.declared.section.Section.{Section}
 use Rattle.vd_outline.specs.declared.section.SectionKind.{SectionKind}
 use Rattle.vd_outline.specs.declared.section.SectionKind.TheVariants as section
+use Rattle.vd_outline.specs.Fault.{IsBad}
 use Rattle.vd_outline.specs.Lines.{joined}
-use Rattle.vd_outline.specs.Outline.{Bytes, IsSection, header_line}
+use Rattle.vd_outline.specs.Outline.{Bytes, HasHead, IsSection, Outlines, head_line, header_line}
 use Rattle.vd_outline.proofs.BodyLaws.{joined-append}
 use Rattle.vd_outline.proofs.WordLaws.{lacks-header_line}
 use Rattle.vd_sparse.specs.declared.text.LogicText.{LogicText}
 use Rattle.vd_sparse.specs.declared.text.LogicText.TheVariants as logic
-use Rattle.vd_scopes.specs.Head.{AllSay, DeclaresC, DeclaresLogic, Lists, Says, declaration, fault_content, listing, logic_content, nothing, placed, section_then, told}
+use Rattle.vd_scopes.specs.Head.{AllSay, DeclaresC, DeclaresLogic, IsPart, Lists, Says, bad, broken, declaration, fault_content, headless, listing, logic_content, nothing, outlined, placed, section_then, told}
 
 -- ---- a section is cut behind its header line
 
@@ -172,3 +176,21 @@ one_left begin at next xs n x found new below item head next_is new_is r =
       said = subst (λ ss. AllSay begin ss new) (sym e) (subst (λ hs. AllSay begin (head_sections (take n xs)) hs) (sym new_is) r.said);
       alike = subst (λ ss. Alike next (behind begin ss)) (sym e) (subst (λ k. Alike k (behind begin (head_sections (take n xs)))) (sym next_is) r.alike);
     }
+
+-- ---- parts
+
+pub outlined_says : (text : Bytes) (o : Outline) (line : Bytes) (begin : ℕ) (sections : List Section) (hs : List HeadSection) → line ≡ head_line o.kind o.name ++ 10 ∷ [] → begin ≡ length line → sections ≡ o.sections
+    → Outlines text o → ((kind : TextKind) → All (IsSection kind) sections → AllSay begin (head_sections sections) hs) → IsPart text (record { head = Some (o.kind, o.name); sections = hs })
+outlined_says text o line begin sections hs is at same outlines said =
+    let all : All (IsSection o.kind) sections = subst (λ ss. All (IsSection o.kind) ss) (sym same) outlines.sections in
+    let e : begin ≡ length (head_line o.kind o.name) + 1 = at ∙ (ap length is ∙ length_push (head_line o.kind o.name) 10) in
+    outlined o outlines refl (subst (λ k. AllSay k (head_sections o.sections) hs) e (subst (λ ss. AllSay begin (head_sections ss) hs) same (said o.kind all)))
+
+broken_says : (text : Bytes) (place : ℕ) → IsBad text place → (p : Part) → p ≡ broken place → IsPart text p
+broken_says text place is p e = bad place is e
+
+pub bad_says : {E : Type 0} (text : Bytes) (place : ℕ) (r : Result Part E) → IsBad text place → IfOk r (λ p. p ≡ broken place) → IfOk r (IsPart text)
+bad_says text place r is h = IfOk-weaker r (λ p. p ≡ broken place) (IsPart text) (broken_says text place is) h
+
+pub headless_says : {E : Type 0} (text : Bytes) (r : Result Part E) → ((kind : TextKind) (name : Bytes) → HasHead text kind name → ⊥) → IfOk r (λ p. p ≡ broken 0) → IfOk r (IsPart text)
+headless_says text r none h = IfOk-weaker r (λ p. p ≡ broken 0) (IsPart text) (λ p e. headless none e) h
