@@ -1,3 +1,7 @@
 pub mod Adding
 pub mod Filling
 pub mod Reading
+mod Meaning
+mod Judging
+mod FirstUnread
+mod Refusing
