@@ -1,5 +1,9 @@
 pub mod Adding
 pub mod Filling
+pub mod FirstUnread
+pub mod Judging
+pub mod Meaning
 pub mod Placing
 pub mod Reading
-mod Single
+pub mod Refusing
+pub mod Single

@@ -47,7 +47,7 @@ module _ (parts : List Part) (own : ℕ) where
 
   module _ (once : (place : ℕ) → FailsTwice parts own place → ⊥) where
     not_twofold : (s : Space) (name : Bytes) → IsTwofold parts own s name → ⊥
-    not_twofold s name two = once (last_place s name 0 (own_sections parts own)) (inl (s, name, two, refl))
+    not_twofold s name two = once (last_place s name 0 (own_sections parts own)) (inl (s, name, (two, refl)))
 
     one_seen : (s : Space) (name : Bytes) → ((i : ℕ) (d : Content) → IsDeclared parts s name own i d → ⊥) → (k i n j : ℕ) (c d : Content) → Sees parts own s name k i c → Sees parts own s name n j d → c ≡ d
     one_seen s name none k i n j c d x y = elim (cases_eq k n) [

@@ -11,9 +11,16 @@ use Rattle.vd_known.specs.Known.{IsUnknown}
 use Rattle.vd_known.specs.Twice.{FailsTwice}
 use Rattle.vd_heads.specs.Least.{IsPlaceOf}
 
+-- A section of the part is not read, and this is the place of its fault.
+pub record IsUnread (parts : List Part) (own place : ℕ) : Type 0 where
+  pub number : ℕ
+  pub section : HeadSection
+  pub stands : IsSection parts own number section
+  pub says : section.content ≡ content.Unread place
+
 -- A condition fails of the part of that number, at a place: of 2, 4 and 5 it is that of the header line of a section.
 pub data Fails (parts : List Part) (own : ℕ) (condition place : ℕ) : Type 0 where
-  unread : (number : ℕ) (h : HeadSection) → IsSection parts own number h → h.content ≡ content.Unread place → condition ≡ 1 → Fails parts own condition place
+  unread : IsUnread parts own place → condition ≡ 1 → Fails parts own condition place
   unknown : IsPlaceOf parts own (IsUnknown parts own) place → condition ≡ 2 → Fails parts own condition place
   twice : FailsTwice parts own place → condition ≡ 3 → Fails parts own condition place
   disagreement : IsPlaceOf parts own (IsDisagreement parts own) place → condition ≡ 4 → Fails parts own condition place

@@ -1,10 +1,11 @@
 //! The first condition that fails, and the scopes where none does.
 
-ghost use Rattle.std.specs.Prelude.{◌≡◌, ℕ, IfOk, MatchOption, Option, option_copied};
+ghost use Rattle.std.specs.Prelude.{◌≡◌, ◌↔◌, ℕ, IfOk, IsTrue, MatchOption, Option, None, option_copied};
 ghost use Rattle.vd_heads.specs.declared.content.Part.{Part as Parted};
 ghost use Rattle.vd_scopes.specs.Failing as failing;
 ghost use Rattle.vd_scopes.specs.Head as head;
-ghost use Rattle.vd_scopes.specs.Answers.{AnswersTexts, SaySomething, IsSplit};
+ghost use Rattle.vd_scopes.specs.Answers.{Answers, AnswersTexts, HasSomeHead, SaySomething, IsSplit};
+ghost use Rattle.vd_heads.specs.Least.{IsLeastOrNone};
 ghost use Rattle.vd_heads.specs.Views.{IsTable, IsView};
 
 use crate::contents::part_of;
@@ -39,7 +40,9 @@ impl From<AllocError> for HeadFault {
 }
 
 /// The smallest place of a fault in a section that is not read.
-fn first_unread(view: &View<'_>) -> Option<u32> {
+fn first_unread(view: &View<'_>) -> Option<u32>
+    ensures { IsLeastOrNone (failing.IsUnread view.now.parts.now view.now.own) result }
+{
     let mut first = None;
     for section in view.sections() {
         if let Content::Unread(place) = &section.content {
@@ -94,10 +97,10 @@ fn header_failing(
 }
 
 /// The first of the conditions 1 to 5 that fails of the first part, in order, of which one does.
-fn any_failing(
+fn any_failing<'a>(
     alloc: Global,
-    parts: &[Part],
-    table: &Table<'_>,
+    parts: &'a [Part],
+    table: &'a Table<'a>,
 ) -> Result<Option<(u32, u8)>, AllocError>
     requires { IsTable parts.now table.now }
     ensures { IfOk result (λ found. MatchOption found (failing.Accepts parts.now None) (λ at. failing.Refuses parts.now None at.1 at.0)) }
@@ -111,13 +114,47 @@ fn any_failing(
     Ok(None)
 }
 
+/// The first condition that fails where these are the header lines of the own text's other sections, or none are there.
+fn first_refusal(
+    alloc: Global,
+    own: &View<'_>,
+    lines: Option<&Text>,
+) -> Result<Option<(u32, u8)>, AllocError>
+    requires view { IsView own.now }
+    requires own { own.now.own ≡ 0 }
+    ensures { IfOk result (λ found. MatchOption found (failing.Accepts own.now.parts.now (option_copied lines.entry)) (λ at. failing.Refuses own.now.parts.now (option_copied lines.entry) at.1 at.0)) }
+{
+    match lines {
+        Some(lines) => header_failing(alloc, own, lines),
+        None => any_failing(alloc, own.parts, own.table),
+    }
+}
+
+/// What is answered of the head parts, where these are the header lines of the own text's other sections, or none are there.
+fn judged(alloc: Global, parts: &[Part], lines: Option<&Text>) -> Result<Scopes, HeadFault>
+    ensures { Answers parts.now (option_copied lines.entry) result }
+{
+    let table = Table::of(alloc, parts)?;
+    let own = View::of(alloc, parts, &table, 0)?;
+    match first_refusal(alloc, &own, lines)? {
+        Some((place, condition)) => Err(HeadFault::Refused(place, condition)),
+        None => Ok(scopes_of(alloc, &own)?),
+    }
+}
+
+fn has_head(alloc: Global, text: &Text) -> Result<bool, AllocError>
+    ensures { IfOk result (λ has. IsTrue has ↔ HasSomeHead text.now) }
+{
+    Ok(head_of(alloc, text)?.is_some())
+}
+
 /// The text of header lines among the parts: the last, where it is not the first and has no head line.
 fn split_lines(alloc: Global, parts: &[Text]) -> Result<(&[Text], Option<&Text>), AllocError>
     ensures { IfOk result (λ split. IsSplit parts.now split.0.now (option_copied split.1)) }
 {
     match parts {
         [front @ .., last] => {
-            if front.is_empty() || head_of(alloc, last)?.is_some() {
+            if front.is_empty() || has_head(alloc, last)? {
                 Ok((parts, None))
             } else {
                 Ok((front, Some(last)))
@@ -157,14 +194,5 @@ pub fn scopes(alloc: Global, parts: &List<Text>) -> Result<Scopes, HeadFault>
 {
     let (texts, lines) = split_lines(alloc, parts.as_slice())?;
     let parts = parts_of(alloc, texts)?;
-    let table = Table::of(alloc, parts.as_slice())?;
-    let own = View::of(alloc, parts.as_slice(), &table, 0)?;
-    let failing = match lines {
-        Some(lines) => header_failing(alloc, &own, lines)?,
-        None => any_failing(alloc, parts.as_slice(), &table)?,
-    };
-    match failing {
-        Some((place, condition)) => Err(HeadFault::Refused(place, condition)),
-        None => Ok(scopes_of(alloc, &own)?),
-    }
+    judged(alloc, parts.as_slice(), lines)
 }
