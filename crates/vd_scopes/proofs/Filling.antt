@@ -1,5 +1,5 @@
 -- How a table of structs is filled.
-use Rattle.std.proofs.Common.{◌≡◌, ◌≢◌, ℕ, zero, suc, ◌+◌, ◌<◌, ◌≤◌, Bool, true, false, cond, List, [], ◌∷◌, ◌++◌, length, get_or, take, Option, None, Some, ◌⊎◌, inl, inr, refl, ap, sym, ◌∙◌, subst, arith}
+use Rattle.std.proofs.Common.{◌≡◌, ◌≢◌, ℕ, ◌+◌, ◌<◌, ◌≤◌, Bool, true, false, cond, List, [], ◌∷◌, ◌++◌, length, get_or, take, None, Some, ◌⊎◌, inl, inr, refl, ap, sym, ◌∙◌, subst, arith}
 use Rattle.std.specs.List.{All, Contains, slice_get}
 use Rattle.std.specs.Option.{is_some}
 use Rattle.std.specs.Str.{bytes_eq}
@@ -10,7 +10,6 @@ use Rattle.std.proofs.lemmas.Slice.Eq.{bytes_eq-Decides}
 use Rattle.vd_base.specs.declared.ctype.Field.{Field}
 use Rattle.vd_base.specs.Layout.{Table, are_fields, fields_of, has_struct, refusal}
 use Rattle.vd_base.specs.LayoutLaws.{IsMade}
-use Rattle.vd_heads.specs.declared.content.Content.{Content}
 use Rattle.vd_heads.specs.declared.content.Content.TheVariants as content
 use Rattle.vd_heads.specs.declared.content.Part.{Part}
 use Rattle.vd_heads.specs.declared.table.Space.TheVariants as space

@@ -66,9 +66,9 @@ none_before parts k below = absurd (omega (arith, below))
 
 one_more_before : (parts : List Part) (n : ℕ) → AllHold (Fails parts n) → HoldBefore parts n → HoldBefore parts (n + 1)
 one_more_before parts n holds before k below = elim (cases_lt k n) [
-  | inl less ↦ before k less
+    inl less ↦ before k less
   | inr not ↦ (let e : n ≡ k = omega (arith, below, not) in subst (λ m. AllHold (Fails parts m)) e holds)
-]
+  ]
 
 first_part : (parts : List Part) (n condition place : ℕ) → n < length parts → HoldBefore parts n → IsFirst (Fails parts n) condition place → IsFirstPart parts condition place
 first_part parts n condition place stands before first = record { number = n; stands = stands; first = first; before = before }
