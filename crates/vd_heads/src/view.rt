@@ -13,11 +13,12 @@ use crate::table::{Space, Spot, Table};
 use std::alloc::{AllocError, Global};
 use vd_base::Name;
 
-/// A part among others, with its closure and with the interfaces that it exports.
+/// A part among others, with its closure and with the interfaces that it exports. The table's names live on their own: a
+/// table that is borrowed for as long as its names live could not be dropped.
 #[derive(Drop)]
-pub struct View<'a> {
+pub struct View<'a, 'n> {
     pub parts: &'a [Part],
-    pub table: &'a Table<'a>,
+    pub table: &'a Table<'n>,
     pub own: usize,
     closure: Vec<bool>,
     exported: Vec<bool>,
@@ -32,14 +33,14 @@ fn is_marked(marks: &Vec<bool>, number: usize) -> bool
     }
 }
 
-impl<'a> View<'a> {
+impl<'a, 'n> View<'a, 'n> {
     /// The view of the part of a number, from 0.
     pub fn of(
         alloc: Global,
         parts: &'a [Part],
-        table: &'a Table<'a>,
+        table: &'a Table<'n>,
         own: usize,
-    ) -> Result<View<'a>, AllocError>
+    ) -> Result<View<'a, 'n>, AllocError>
         requires { IsTable parts.now table.now }
         ensures view { IfOk result IsView }
         ensures parts { IfOk result (λ view. view.parts.now ≡ parts.now) }

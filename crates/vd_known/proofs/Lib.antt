@@ -1,5 +1,6 @@
 mod NameLaws
 mod Needs
+mod ItemLaws
 mod LeastLaws
 mod Unknown
 mod TwinLaws

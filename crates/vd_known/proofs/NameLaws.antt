@@ -1,5 +1,5 @@
 -- Sets of names, with one more.
-use Rattle.std.proofs.Common.{◌≡◌, ℕ, Bool, true, false, ◌||◌, List, [], ◌∷◌, ◌++◌, map, Bor, Result, Ok, Err, OnOk, refl, ap, sym, ◌∙◌}
+use Rattle.std.proofs.Common.{◌≡◌, Bool, true, false, ◌||◌, List, [], ◌∷◌, ◌++◌, map, Bor, refl, ap, sym, ◌∙◌}
 use Rattle.std.proofs.lemmas.List.{map-append}
 use Rattle.std.proofs.lemmas.List.Folds.{list_any-append}
 use Rattle.std.proofs.lemmas.Map.Lookups.{exact_bytes}
@@ -50,13 +50,8 @@ pub found_more : (name : Bytes) (key : Bor Bytes) (keys new : List (Bor Bytes)) 
 found_more name key keys new listed more e f h =
     ap (among name) e ∙ (among_more name key keys ∙ (ap (λ b. bytes_eq name key.now || b) h ∙ (swap (bytes_eq name key.now) (list_any (bytes_eq name) (map (λ k. k.now) listed))
     ∙ sym (ap (λ ks. list_any (bytes_eq name) (map (λ k. k.now) ks)) f ∙ (ap (list_any (bytes_eq name)) (map-append (λ k. k.now) listed (key ∷ [])) ∙ list_any-append (bytes_eq name) (map (λ k. k.now) listed) (key.now ∷ [])))))) where
-  swap : (a b : Bool) → a || b ≡ b || (a || false)
-  swap true true = refl
-  swap true false = refl
-  swap false true = refl
-  swap false false = refl
-
--- of a result that is no failure, what a fact says
-pub on_ok_more : {T E A B : Type 0} (r : Result T E) → (A → B) → OnOk r A → OnOk r B
-on_ok_more (Ok x) f a = f a
-on_ok_more (Err e) f a = tt
+      swap : (a b : Bool) → a || b ≡ b || (a || false)
+      swap true true = refl
+      swap true false = refl
+      swap false true = refl
+      swap false false = refl

@@ -1,5 +1,5 @@
 -- Whether all that is needed is seen, one element after the other.
-use Rattle.std.proofs.Common.{◌≡◌, ℕ, zero, suc, ◌+◌, ◌<◌, ◌≤◌, Bool, true, false, cond, ◌&&◌, List, [], ◌∷◌, ◌++◌, length, map, take, get_or, flat_map, ℤ, None, Some, refl, ap, sym, ◌∙◌, arith}
+use Rattle.std.proofs.Common.{◌≡◌, ℕ, zero, suc, ◌+◌, ◌<◌, ◌≤◌, Bool, true, false, cond, ◌&&◌, List, [], ◌∷◌, ◌++◌, length, take, get_or, flat_map, ℤ, None, Some, refl, ap, sym, ◌∙◌, arith}
 use Rattle.std.proofs.lemmas.List.{take_more, take_all}
 use Rattle.std.proofs.lemmas.List.Concat.{flat_map-append}
 use Rattle.std.proofs.lemmas.List.Folds.{list_all-append, flat_map-map}
@@ -11,7 +11,7 @@ use Rattle.vd_logic.specs.Layers.{fold-Num, fold-Var, fold-Named, fold-Global, f
 use Rattle.vd_heads.specs.declared.table.Space.TheVariants as space
 use Rattle.vd_heads.specs.Declaration.{Bytes}
 use Rattle.vd_heads.specs.declared.view.View.{View}
-use Rattle.vd_known.specs.Known.{Need, is_met, term_needs, term_layer, joined}
+use Rattle.vd_known.specs.Known.{Need, is_met, term_needs, term_layer}
 
 module _ {A : Type 0} (met : Need → Bool) (needs : A → List Need) where
   pub all_more : (xs : List A) (i : ℕ) (x : A) → i < length xs → x ≡ get_or xs i x → list_all met (needs x) ≡ true → list_all met (flat_map needs (take i xs)) ≡ true → list_all met (flat_map needs (take (i + 1) xs)) ≡ true

@@ -1,5 +1,5 @@
 -- A name is unknown exactly where something that is needed is not seen.
-use Rattle.std.proofs.Common.{◌≡◌, ℕ, zero, suc, ◌<◌, Bool, true, false, ◌&&◌, List, [], ◌∷◌, length, get_or, Option, None, Some, refl, sym, ◌∙◌, ap, subst, arith}
+use Rattle.std.proofs.Common.{◌≡◌, ℕ, zero, suc, ◌<◌, Bool, true, false, ◌&&◌, List, [], ◌∷◌, length, get_or, None, Some, refl, sym, ◌∙◌, ap, arith}
 use Rattle.std.specs.List.{Contains, list_all}
 use Rattle.vd_heads.specs.declared.content.Content.{Content}
 use Rattle.vd_heads.specs.declared.view.View.{View}

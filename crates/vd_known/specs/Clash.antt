@@ -2,7 +2,6 @@
 use Rattle.std.specs.Prelude.{ℕ, Bool, false, not, ◌&&◌, ◌||◌, ◌==◌, if◌then◌else◌, List, [], ◌∷◌, slice_get, Option, None, Some, option_map, unwrap_or}
 use Rattle.std.specs.List.{list_any}
 use Rattle.vd_heads.specs.declared.content.Content.{Content}
-use Rattle.vd_heads.specs.declared.content.HeadSection.{HeadSection}
 use Rattle.vd_heads.specs.declared.table.Spot.{Spot}
 use Rattle.vd_heads.specs.declared.view.View.{View}
 use Rattle.vd_heads.specs.Declaration.{section_at, sections_in}

@@ -1,7 +1,6 @@
 -- Condition 6: a unit lacks a predicate, a function, a specification or a subsumption, or has a proof without its function.
-use Rattle.std.specs.Prelude.{◌≡◌, ◌⊎◌, ℕ, Bool, true, List, [], ◌∷◌, ◌++◌, Some}
+use Rattle.std.specs.Prelude.{◌≡◌, ◌⊎◌, ℕ, true, List, [], ◌∷◌, ◌++◌, Some}
 use Rattle.std.specs.List.{Contains}
-use Rattle.vd_logic.specs.declared.assertion.Spec.{Spec}
 use Rattle.vd_outline.specs.declared.section.SectionKind.{SectionKind}
 use Rattle.vd_outline.specs.declared.section.SectionKind.TheVariants as section
 use Rattle.vd_outline.specs.Lines.{lacks}

@@ -44,11 +44,7 @@ fn name_behind<'a>(kind: SectionKind, line: &'a [u8]) -> Option<&'a [u8]>
 }
 
 /// Puts the name in a header line of this kind behind others, where there is one.
-fn add_named<'a>(
-    names: &mut Names<'a>,
-    kind: SectionKind,
-    line: &'a [u8],
-) -> Result<(), AllocError>
+fn add_named<'a>(names: &mut Names<'a>, kind: SectionKind, line: &'a [u8]) -> Result<(), AllocError>
     requires { IsSet names.old }
     ensures set { OnOk result (IsSet names.new) }
     ensures names { OnOk result ((f : Bytes) → IsIn names.new f ↔ (IsIn names.old f ⊎ (line.now ≡ header_line kind (Some f)))) }
@@ -83,7 +79,7 @@ impl<'a> Bodies<'a> {
 }
 
 /// Whether the part itself declares the name.
-fn has_own(view: &View<'_>, space: Space, name: &[u8]) -> bool
+fn has_own(view: &View<'_, '_>, space: Space, name: &[u8]) -> bool
     requires { IsView view.now }
     ensures { IsTrue result ↔ complete.HasOwn view.now.parts.now view.now.own space name.now }
 {
@@ -96,7 +92,7 @@ fn has_own(view: &View<'_>, space: Space, name: &[u8]) -> bool
 }
 
 /// Whether an exported interface specifies the function.
-fn has_exported_spec(view: &View<'_>, name: &[u8]) -> bool
+fn has_exported_spec(view: &View<'_, '_>, name: &[u8]) -> bool
     requires { IsView view.now }
     ensures { IsTrue result ↔ complete.IsExported view.now.parts.now view.now.own name.now }
 {
@@ -109,7 +105,7 @@ fn has_exported_spec(view: &View<'_>, name: &[u8]) -> bool
 }
 
 /// Whether nothing specifies the function.
-fn is_unspecified(view: &View<'_>, name: &[u8]) -> bool
+fn is_unspecified(view: &View<'_, '_>, name: &[u8]) -> bool
     requires { IsView view.now }
     ensures { IsTrue result ↔ complete.IsUnknown view.now.parts.now view.now.own name.now }
 {
@@ -117,7 +113,7 @@ fn is_unspecified(view: &View<'_>, name: &[u8]) -> bool
 }
 
 /// Whether a function without a specification stands in the unit.
-fn has_unspecified(view: &View<'_>, bodies: &Bodies<'_>) -> bool
+fn has_unspecified(view: &View<'_, '_>, bodies: &Bodies<'_>) -> bool
     requires { IsView view.now }
     ensures { (lines : Bytes) → AreBodies lines bodies.now → IsTrue result ↔ ((f : Bytes) × complete.IsUnspecified lines view.now.parts.now view.now.own f) }
 {
@@ -130,7 +126,7 @@ fn has_unspecified(view: &View<'_>, bodies: &Bodies<'_>) -> bool
 }
 
 /// Whether a proof without its function stands in the unit.
-fn has_alone(view: &View<'_>, bodies: &Bodies<'_>) -> bool
+fn has_alone(view: &View<'_, '_>, bodies: &Bodies<'_>) -> bool
     requires names { IsSet bodies.now.functions }
     ensures { (lines : Bytes) → AreBodies lines bodies.now → IsTrue result ↔ ((f : Bytes) × complete.IsAlone lines view.now.parts.now view.now.own f) }
 {
@@ -143,7 +139,7 @@ fn has_alone(view: &View<'_>, bodies: &Bodies<'_>) -> bool
 }
 
 /// Whether a subsumption of the function is asked for.
-fn is_asked(view: &View<'_>, bodies: &Bodies<'_>, name: &[u8]) -> bool
+fn is_asked(view: &View<'_, '_>, bodies: &Bodies<'_>, name: &[u8]) -> bool
     requires view { IsView view.now }
     requires names { IsSet bodies.now.functions }
     ensures { IsTrue result ↔ (IsIn bodies.now.functions name.now × complete.IsSubsumed view.now.parts.now view.now.own name.now) }
@@ -154,7 +150,7 @@ fn is_asked(view: &View<'_>, bodies: &Bodies<'_>, name: &[u8]) -> bool
 }
 
 /// Whether a subsumption that nothing asks for stands in the unit.
-fn has_unasked(view: &View<'_>, bodies: &Bodies<'_>) -> bool
+fn has_unasked(view: &View<'_, '_>, bodies: &Bodies<'_>) -> bool
     requires view { IsView view.now }
     requires names { IsSet bodies.now.functions }
     ensures { (lines : Bytes) → AreBodies lines bodies.now → IsTrue result ↔ ((f : Bytes) × complete.IsUnasked lines view.now.parts.now view.now.own f) }
@@ -168,7 +164,7 @@ fn has_unasked(view: &View<'_>, bodies: &Bodies<'_>) -> bool
 }
 
 /// Whether what a section of an interface says asks for what the unit lacks.
-fn asks_for(view: &View<'_>, bodies: &Bodies<'_>, content: &Content) -> bool
+fn asks_for(view: &View<'_, '_>, bodies: &Bodies<'_>, content: &Content) -> bool
     requires view { IsView view.now }
     requires names { IsSet bodies.now.functions }
     ensures { (lines : Bytes) → AreBodies lines bodies.now → IsTrue result ↔ complete.AsksFor lines view.now.parts.now view.now.own content.now }
@@ -182,7 +178,7 @@ fn asks_for(view: &View<'_>, bodies: &Bodies<'_>, content: &Content) -> bool
 }
 
 /// Whether one of these sections of an interface asks for what the unit lacks.
-fn one_asks(view: &View<'_>, bodies: &Bodies<'_>, sections: &[HeadSection]) -> bool
+fn one_asks(view: &View<'_, '_>, bodies: &Bodies<'_>, sections: &[HeadSection]) -> bool
     requires view { IsView view.now }
     requires names { IsSet bodies.now.functions }
     ensures { (lines : Bytes) → AreBodies lines bodies.now → IsTrue result ↔ ((i : ℕ) × (h : HeadSection) × (slice_get sections.now i ≡ Some h) × complete.AsksFor lines view.now.parts.now view.now.own h.content) }
@@ -196,7 +192,7 @@ fn one_asks(view: &View<'_>, bodies: &Bodies<'_>, sections: &[HeadSection]) -> b
 }
 
 /// Whether the interface of this number asks for what the unit lacks.
-fn asks(view: &View<'_>, bodies: &Bodies<'_>, number: usize) -> bool
+fn asks(view: &View<'_, '_>, bodies: &Bodies<'_>, number: usize) -> bool
     requires view { IsView view.now }
     requires names { IsSet bodies.now.functions }
     ensures { (lines : Bytes) → AreBodies lines bodies.now → IsTrue result ↔ complete.Asks lines view.now.parts.now view.now.own number }
@@ -208,7 +204,7 @@ fn asks(view: &View<'_>, bodies: &Bodies<'_>, number: usize) -> bool
 }
 
 /// The place of a name that is exported, if its interface asks for what the unit lacks.
-fn missing_place(view: &View<'_>, bodies: &Bodies<'_>, mention: &Mention) -> Option<u32>
+fn missing_place(view: &View<'_, '_>, bodies: &Bodies<'_>, mention: &Mention) -> Option<u32>
     requires view { IsView view.now }
     requires names { IsSet bodies.now.functions }
     ensures { (lines : Bytes) → AreBodies lines bodies.now → IsLeastOrNone (complete.IsMissing lines view.now.parts.now view.now.own mention.now) result }
@@ -226,7 +222,7 @@ fn missing_place(view: &View<'_>, bodies: &Bodies<'_>, mention: &Mention) -> Opt
 }
 
 /// The smallest place of an interface, of those exported, that asks for what the unit lacks.
-fn first_missing(view: &View<'_>, bodies: &Bodies<'_>, mentions: &[Mention]) -> Option<u32>
+fn first_missing(view: &View<'_, '_>, bodies: &Bodies<'_>, mentions: &[Mention]) -> Option<u32>
     requires view { IsView view.now }
     requires names { IsSet bodies.now.functions }
     ensures { (lines : Bytes) → AreBodies lines bodies.now → IsLeastOrNone (λ at. (m : Mention) × Contains mentions.now m × complete.IsMissing lines view.now.parts.now view.now.own m at) result }
@@ -239,7 +235,7 @@ fn first_missing(view: &View<'_>, bodies: &Bodies<'_>, mentions: &[Mention]) -> 
 }
 
 /// Whether a specification of the unit has its function, and its subsumption where an interface exports it.
-fn is_served(view: &View<'_>, bodies: &Bodies<'_>, name: &[u8]) -> bool
+fn is_served(view: &View<'_, '_>, bodies: &Bodies<'_>, name: &[u8]) -> bool
     requires view { IsView view.now }
     requires functions { IsSet bodies.now.functions }
     requires subs { IsSet bodies.now.subs }
@@ -249,7 +245,7 @@ fn is_served(view: &View<'_>, bodies: &Bodies<'_>, name: &[u8]) -> bool
 }
 
 /// The place of a specification's header line, if the specification is not served.
-fn spec_lack(view: &View<'_>, bodies: &Bodies<'_>, spec: &Spec, place: u32) -> Option<u32>
+fn spec_lack(view: &View<'_, '_>, bodies: &Bodies<'_>, spec: &Spec, place: u32) -> Option<u32>
     requires view { IsView view.now }
     requires functions { IsSet bodies.now.functions }
     requires subs { IsSet bodies.now.subs }
@@ -263,7 +259,7 @@ fn spec_lack(view: &View<'_>, bodies: &Bodies<'_>, spec: &Spec, place: u32) -> O
 }
 
 /// The smallest place in a section at which a unit lacks what is asked of it.
-fn section_lack(view: &View<'_>, bodies: &Bodies<'_>, section: &HeadSection) -> Option<u32>
+fn section_lack(view: &View<'_, '_>, bodies: &Bodies<'_>, section: &HeadSection) -> Option<u32>
     requires view { IsView view.now }
     requires functions { IsSet bodies.now.functions }
     requires subs { IsSet bodies.now.subs }
@@ -278,7 +274,7 @@ fn section_lack(view: &View<'_>, bodies: &Bodies<'_>, section: &HeadSection) -> 
 }
 
 /// Whether something that asks for nothing of the unit stands in it.
-fn has_stray(view: &View<'_>, bodies: &Bodies<'_>) -> bool
+fn has_stray(view: &View<'_, '_>, bodies: &Bodies<'_>) -> bool
     requires view { IsView view.now }
     requires names { IsSet bodies.now.functions }
     ensures { (lines : Bytes) → AreBodies lines bodies.now → IsTrue result ↔ complete.IsStray lines view.now.parts.now view.now.own }
@@ -293,7 +289,7 @@ fn has_stray(view: &View<'_>, bodies: &Bodies<'_>) -> bool
 }
 
 /// The smallest place at which a unit lacks what is asked of it.
-pub fn first_lack(view: &View<'_>, bodies: &Bodies<'_>) -> Option<u32>
+pub fn first_lack(view: &View<'_, '_>, bodies: &Bodies<'_>) -> Option<u32>
     requires view { IsView view.now }
     requires functions { IsSet bodies.now.functions }
     requires subs { IsSet bodies.now.subs }

@@ -15,7 +15,7 @@ use vd_clight::Init;
 use vd_heads::{Content, Space, View, held, least};
 use vd_logic::{Assertion, Item, Label, Prop, Spec, Term};
 
-fn knows(view: &View<'_>, space: Space, name: &Name) -> bool
+fn knows(view: &View<'_, '_>, space: Space, name: &Name) -> bool
     requires { IsView view.now }
     ensures { result ≡ known.is_met view.now (Some (space, name.now)) }
 {
@@ -23,7 +23,7 @@ fn knows(view: &View<'_>, space: Space, name: &Name) -> bool
 }
 
 /// Whether the struct is known that the type holds by value.
-fn knows_type(view: &View<'_>, t: &CType) -> bool
+fn knows_type(view: &View<'_, '_>, t: &CType) -> bool
     requires { IsView view.now }
     ensures { result ≡ list_all (known.is_met view.now) (known.type_needs t.now) }
 {
@@ -33,7 +33,7 @@ fn knows_type(view: &View<'_>, t: &CType) -> bool
     }
 }
 
-fn knows_fields(view: &View<'_>, fields: &[Field]) -> bool
+fn knows_fields(view: &View<'_, '_>, fields: &[Field]) -> bool
     requires { IsView view.now }
     ensures { result ≡ list_all (known.is_met view.now) (known.field_needs fields.now) }
 {
@@ -45,7 +45,7 @@ fn knows_fields(view: &View<'_>, fields: &[Field]) -> bool
     true
 }
 
-fn knows_value(view: &View<'_>, value: &Init) -> bool
+fn knows_value(view: &View<'_, '_>, value: &Init) -> bool
     requires { IsView view.now }
     ensures { result ≡ list_all (known.is_met view.now) (known.value_needs value.now) }
 {
@@ -55,7 +55,7 @@ fn knows_value(view: &View<'_>, value: &Init) -> bool
     }
 }
 
-fn knows_values(view: &View<'_>, values: &[Init]) -> bool
+fn knows_values(view: &View<'_, '_>, values: &[Init]) -> bool
     requires { IsView view.now }
     ensures { result ≡ list_all (known.is_met view.now) (flat_map known.value_needs values.now) }
 {
@@ -68,7 +68,7 @@ fn knows_values(view: &View<'_>, values: &[Init]) -> bool
 }
 
 #[cycle(term)]
-fn knows_term(view: &View<'_>, term: &Term) -> bool
+fn knows_term(view: &View<'_, '_>, term: &Term) -> bool
     requires { IsView view.now }
     ensures { result ≡ list_all (known.is_met view.now) (known.term_needs term.now) }
 {
@@ -82,7 +82,7 @@ fn knows_term(view: &View<'_>, term: &Term) -> bool
 }
 
 #[cycle(term)]
-fn knows_terms(view: &View<'_>, terms: &List<Term>) -> bool
+fn knows_terms(view: &View<'_, '_>, terms: &List<Term>) -> bool
     requires { IsView view.now }
     ensures { result ≡ list_all (known.is_met view.now) (flat_map known.term_needs terms.now) }
 {
@@ -94,7 +94,7 @@ fn knows_terms(view: &View<'_>, terms: &List<Term>) -> bool
     true
 }
 
-fn knows_prop(view: &View<'_>, prop: &Prop) -> bool
+fn knows_prop(view: &View<'_, '_>, prop: &Prop) -> bool
     requires { IsView view.now }
     ensures { result ≡ list_all (known.is_met view.now) (known.prop_needs prop.now) }
 {
@@ -102,20 +102,18 @@ fn knows_prop(view: &View<'_>, prop: &Prop) -> bool
         Prop::Rel(_, a, b) => knows_term(view, a) && knows_term(view, b),
         Prop::IsInt(a) => knows_term(view, a),
         Prop::IsPtr(a) => knows_term(view, a),
-        Prop::Each(l, a, b) => {
-            knows_term(view, l) && knows_term(view, a) && knows_term(view, b)
-        }
+        Prop::Each(l, a, b) => { knows_term(view, l) && knows_term(view, a) && knows_term(view, b) }
     }
 }
 
-fn knows_predicate(view: &View<'_>, label: &Label) -> bool
+fn knows_predicate(view: &View<'_, '_>, label: &Label) -> bool
     requires { IsView view.now }
     ensures { result ≡ known.is_met view.now (Some (space.Predicate, label.now.name)) }
 {
     knows(view, Space::Predicate, &label.name)
 }
 
-fn knows_item(view: &View<'_>, item: &Item) -> bool
+fn knows_item(view: &View<'_, '_>, item: &Item) -> bool
     requires { IsView view.now }
     ensures { result ≡ list_all (known.is_met view.now) (known.item_needs item.now) }
 {
@@ -135,7 +133,7 @@ fn knows_item(view: &View<'_>, item: &Item) -> bool
     }
 }
 
-fn knows_props(view: &View<'_>, props: &[Prop]) -> bool
+fn knows_props(view: &View<'_, '_>, props: &[Prop]) -> bool
     requires { IsView view.now }
     ensures { result ≡ list_all (known.is_met view.now) (flat_map known.prop_needs props.now) }
 {
@@ -147,7 +145,7 @@ fn knows_props(view: &View<'_>, props: &[Prop]) -> bool
     true
 }
 
-fn knows_items(view: &View<'_>, items: &[Item]) -> bool
+fn knows_items(view: &View<'_, '_>, items: &[Item]) -> bool
     requires { IsView view.now }
     ensures { result ≡ list_all (known.is_met view.now) (flat_map known.item_needs items.now) }
 {
@@ -159,7 +157,7 @@ fn knows_items(view: &View<'_>, items: &[Item]) -> bool
     true
 }
 
-fn knows_local(view: &View<'_>, names: &Names<'_>, local: &(Name, Term)) -> bool
+fn knows_local(view: &View<'_, '_>, names: &Names<'_>, local: &(Name, Term)) -> bool
     requires view { IsView view.now }
     requires names { IsSet names.now }
     ensures { result ≡ list_all (known.is_met view.now) (known.local_needs (names_of names.now) local.now) }
@@ -167,7 +165,7 @@ fn knows_local(view: &View<'_>, names: &Names<'_>, local: &(Name, Term)) -> bool
     names.has(local.0.as_bytes()) && knows_term(view, &local.1)
 }
 
-fn knows_locals(view: &View<'_>, names: &Names<'_>, locals: &[(Name, Term)]) -> bool
+fn knows_locals(view: &View<'_, '_>, names: &Names<'_>, locals: &[(Name, Term)]) -> bool
     requires view { IsView view.now }
     requires names { IsSet names.now }
     ensures { result ≡ list_all (known.is_met view.now) (flat_map (known.local_needs (names_of names.now)) locals.now) }
@@ -181,7 +179,7 @@ fn knows_locals(view: &View<'_>, names: &Names<'_>, locals: &[(Name, Term)]) -> 
 }
 
 /// Whether all names in an assertion are known, where these are the names of temporaries.
-fn knows_assertion(view: &View<'_>, names: &Names<'_>, a: &Assertion) -> bool
+fn knows_assertion(view: &View<'_, '_>, names: &Names<'_>, a: &Assertion) -> bool
     requires view { IsView view.now }
     requires names { IsSet names.now }
     ensures { result ≡ list_all (known.is_met view.now) (known.assertion_needs (names_of names.now) a.now) }
@@ -191,7 +189,7 @@ fn knows_assertion(view: &View<'_>, names: &Names<'_>, a: &Assertion) -> bool
         && knows_items(view, a.items.as_slice())
 }
 
-fn knows_cases(view: &View<'_>, names: &Names<'_>, cases: &[Assertion]) -> bool
+fn knows_cases(view: &View<'_, '_>, names: &Names<'_>, cases: &[Assertion]) -> bool
     requires view { IsView view.now }
     requires names { IsSet names.now }
     ensures { result ≡ list_all (known.is_met view.now) (flat_map (known.assertion_needs (names_of names.now)) cases.now) }
@@ -215,7 +213,7 @@ fn field_names<'a>(alloc: Global, fields: &'a [Field]) -> Result<Names<'a>, Allo
     Ok(names)
 }
 
-fn knows_spec(alloc: Global, view: &View<'_>, spec: &Spec) -> Result<bool, AllocError>
+fn knows_spec(alloc: Global, view: &View<'_, '_>, spec: &Spec) -> Result<bool, AllocError>
     requires { IsView view.now }
     ensures { IfOk result (λ all. all ≡ list_all (known.is_met view.now) (known.spec_needs spec.now)) }
 {
@@ -229,7 +227,7 @@ fn knows_spec(alloc: Global, view: &View<'_>, spec: &Spec) -> Result<bool, Alloc
 }
 
 /// Whether all names in a section are known.
-fn knows_content(alloc: Global, view: &View<'_>, content: &Content) -> Result<bool, AllocError>
+fn knows_content(alloc: Global, view: &View<'_, '_>, content: &Content) -> Result<bool, AllocError>
     requires { IsView view.now }
     ensures { IfOk result (λ all. all ≡ list_all (known.is_met view.now) (known.needs content.now)) }
 {
@@ -248,7 +246,7 @@ fn knows_content(alloc: Global, view: &View<'_>, content: &Content) -> Result<bo
 }
 
 /// The smallest place of a section in which a name is unknown.
-pub fn first_unknown(alloc: Global, view: &View<'_>) -> Result<Option<u32>, AllocError>
+pub fn first_unknown(alloc: Global, view: &View<'_, '_>) -> Result<Option<u32>, AllocError>
     requires { IsView view.now }
     ensures { IfOk result (IsLeastOrNone (IsPlaceOf view.now.parts.now view.now.own (known.IsUnknown view.now.parts.now view.now.own))) }
 {

@@ -10,3 +10,6 @@ mod twice;
 pub use completeness::{Bodies, first_lack};
 pub use known::first_unknown;
 pub use twice::first_twice;
+
+#[cfg(test)]
+mod tests;

@@ -53,9 +53,7 @@ fn both_define(own: Option<&Content>, other: Option<&Content>) -> bool
         None => false,
         Some(own) => match other {
             None => false,
-            Some(other) => {
-                is_pred(own) && is_abstract(other) || is_spec(own) && is_spec(other)
-            }
+            Some(other) => { is_pred(own) && is_abstract(other) || is_spec(own) && is_spec(other) }
         },
     }
 }
@@ -63,7 +61,7 @@ fn both_define(own: Option<&Content>, other: Option<&Content>) -> bool
 /// Whether a unit's own section defines what another section declares: a predicate or the specification of a function
 /// that an interface declares which the unit exports.
 #[tactic(auto, unfolding(crate::specs::Clash::defines_at))]
-fn defines(view: &View<'_>, own: Spot, other: Spot) -> bool
+fn defines(view: &View<'_, '_>, own: Spot, other: Spot) -> bool
     ensures { result ≡ clash.defines_at view.now own other }
 {
     own.part == view.own
@@ -72,7 +70,7 @@ fn defines(view: &View<'_>, own: Spot, other: Spot) -> bool
 }
 
 #[tactic(auto, unfolding(crate::specs::Clash::clashes))]
-fn clashes(view: &View<'_>, first: Spot, other: Spot) -> bool
+fn clashes(view: &View<'_, '_>, first: Spot, other: Spot) -> bool
     ensures { result ≡ clash.clashes view.now first other }
 {
     view.sees(other.part) && !defines(view, first, other) && !defines(view, other, first)
@@ -80,7 +78,7 @@ fn clashes(view: &View<'_>, first: Spot, other: Spot) -> bool
 
 /// Whether a section is seen, and one of others with which it is two declarations.
 #[tactic(auto, unfolding(crate::specs::Clash::clash_among))]
-fn clash_among(view: &View<'_>, first: Spot, others: &[Spot]) -> bool
+fn clash_among(view: &View<'_, '_>, first: Spot, others: &[Spot]) -> bool
     ensures { result ≡ clash.clash_among view.now first others.now }
 {
     if !view.sees(first.part) {
@@ -96,7 +94,7 @@ fn clash_among(view: &View<'_>, first: Spot, others: &[Spot]) -> bool
 
 /// Whether two of the declarations of a name are seen of which neither defines the other. Of three that are seen there
 /// are two such, so that few are compared with all others.
-fn has_clash(view: &View<'_>, spots: &[Spot]) -> bool
+fn has_clash(view: &View<'_, '_>, spots: &[Spot]) -> bool
     ensures { result ≡ clash.has_clash view.now spots.now }
 {
     for at in 0..spots.len() {
@@ -108,7 +106,7 @@ fn has_clash(view: &View<'_>, spots: &[Spot]) -> bool
 }
 
 #[tactic(auto, unfolding(crate::specs::Clash::place_after))]
-fn place_after(view: &View<'_>, place: u32, spot: Spot) -> u32
+fn place_after(view: &View<'_, '_>, place: u32, spot: Spot) -> u32
     ensures { result ≡ clash.place_after view.now place spot }
 {
     if spot.part == view.own {
@@ -122,7 +120,7 @@ fn place_after(view: &View<'_>, place: u32, spot: Spot) -> u32
 }
 
 /// The place of the part's last section that declares a name, or 0.
-fn last_place(view: &View<'_>, spots: &[Spot]) -> u32
+fn last_place(view: &View<'_, '_>, spots: &[Spot]) -> u32
     ensures { result ≡ clash.last_own view.now 0 spots.now }
 {
     let mut place = 0;
@@ -133,7 +131,7 @@ fn last_place(view: &View<'_>, spots: &[Spot]) -> u32
 }
 
 /// The place of a name that is declared twice.
-fn clash_place(view: &View<'_>, space: Space, name: &[u8]) -> Option<u32>
+fn clash_place(view: &View<'_, '_>, space: Space, name: &[u8]) -> Option<u32>
     requires { IsView view.now }
     ensures { IsLeastOrNone (twice.IsTwofoldAt view.now.parts.now view.now.own space name.now) result }
 {
@@ -146,7 +144,7 @@ fn clash_place(view: &View<'_>, space: Space, name: &[u8]) -> Option<u32>
 }
 
 /// The smallest place of a name of a name space that is declared twice.
-fn first_twofold(view: &View<'_>, space: Space) -> Option<u32>
+fn first_twofold(view: &View<'_, '_>, space: Space) -> Option<u32>
     requires { IsView view.now }
     ensures { IsLeastOrNone (λ place. (name : Bytes) × twice.IsTwofoldAt view.now.parts.now view.now.own space name place) result }
 {
@@ -189,7 +187,7 @@ fn repeats(alloc: Global, content: &Content) -> Result<bool, AllocError>
 }
 
 /// The smallest place of a section within which a name stands twice.
-fn first_repeated(alloc: Global, view: &View<'_>) -> Result<Option<u32>, AllocError>
+fn first_repeated(alloc: Global, view: &View<'_, '_>) -> Result<Option<u32>, AllocError>
     ensures { IfOk result (IsLeastOrNone (IsPlaceOf view.now.parts.now view.now.own (λ c. twice.repeats c ≡ true))) }
 {
     let mut first = None;
@@ -202,7 +200,7 @@ fn first_repeated(alloc: Global, view: &View<'_>) -> Result<Option<u32>, AllocEr
 }
 
 /// The smallest place at which a name is declared twice.
-pub fn first_twice(alloc: Global, view: &View<'_>) -> Result<Option<u32>, AllocError>
+pub fn first_twice(alloc: Global, view: &View<'_, '_>) -> Result<Option<u32>, AllocError>
     requires { IsView view.now }
     ensures { IfOk result (IsLeastOrNone (twice.FailsTwice view.now.parts.now view.now.own)) }
 {

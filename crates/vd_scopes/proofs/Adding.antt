@@ -1,5 +1,5 @@
 -- What the sections that are seen add to scopes.
-use Rattle.std.proofs.Common.{◌≡◌, ◌↔◌, ℕ, zero, suc, ◌+◌, ◌<◌, ◌≤◌, Bool, true, false, cond, List, [], ◌∷◌, ◌++◌, length, get_or, take, refl, ap, sym, ◌∙◌, subst, arith}
+use Rattle.std.proofs.Common.{◌≡◌, ◌↔◌, ℕ, suc, ◌+◌, ◌<◌, ◌≤◌, Bool, true, false, cond, List, [], ◌∷◌, ◌++◌, length, get_or, take, refl, ap, sym, ◌∙◌, subst, arith}
 use Rattle.std.specs.List.{flat_map}
 use Rattle.std.proofs.lemmas.Bool.{false≢true}
 use Rattle.std.proofs.lemmas.List.{append-nil, flat_map_more, take_more, take_all, length-take-le}
@@ -32,6 +32,7 @@ adds_more hs i h s u v within at before now = record {
 } where
   step : take i hs ++ h ∷ [] ≡ take (i + 1) hs
   step = sym (take_more hs i h within ∙ ap (λ y. take i hs ++ y ∷ []) (sym at))
+
   more : {X : Type 0} (f : Content → List X) (a b c : List X) → b ≡ a ++ flat_map (λ x. f x.content) (take i hs) → c ≡ b ++ f h.content → c ≡ a ++ flat_map (λ x. f x.content) (take (i + 1) hs)
   more f a b c first second = second ∙ (ap (λ x. x ++ f h.content) first ∙ (flat_map_more (λ x. f x.content) a (take i hs) h ∙ ap (λ x. a ++ flat_map (λ y. f y.content) x) step))
 
@@ -73,12 +74,16 @@ pub so_far_more : (parts : List Part) (marks : List Bool) → ((k : ℕ) → (is
 so_far_more parts marks is n p first s t within at before adds = go (is_marked marks n) refl adds where
   step : take n parts ++ p ∷ [] ≡ take (n + 1) parts
   step = sym (take_more parts n p within ∙ ap (λ y. take n parts ++ y ∷ []) (sym at))
+
   long : n ≡ 0 + length (take n parts)
   long = let e = length-take-le n parts (omega arith) in omega (arith, e)
+
   more : {X : Type 0} (f : Content → List X) (b c : List X) → b ≡ declared_in f before.closure → c ≡ b ++ flat_map (λ h. f h.content) p.sections → c ≡ declared_in f (before.closure ++ p ∷ [])
   more f b c was now = now ∙ (ap (λ x. x ++ flat_map (λ h. f h.content) p.sections) was ∙ flat_map_more (λ q. flat_map (λ h. f h.content) q.sections) [] before.closure p)
+
   less : {X : Type 0} (b c d : List X) → b ≡ d → c ≡ b ++ [] → c ≡ d
   less b c d was now = now ∙ (append-nil b ∙ was)
+
   go : (b : Bool) → is_marked marks n ≡ b → Adds (cond b p.sections []) s t → IsSoFar parts (n + 1) first t
   go true e a = record {
     closure = before.closure ++ p ∷ [];

@@ -1,5 +1,5 @@
 -- How a table of structs is filled.
-use Rattle.std.proofs.Common.{◌≡◌, ◌≢◌, ℕ, zero, suc, ◌+◌, ◌<◌, ◌≤◌, Bool, true, false, cond, List, [], ◌∷◌, ◌++◌, length, get_or, take, Option, None, Some, ◌⊎◌, inl, inr, refl, ap, sym, ◌∙◌, subst, arith}
+use Rattle.std.proofs.Common.{◌≡◌, ◌≢◌, ℕ, ◌+◌, ◌<◌, ◌≤◌, Bool, true, false, cond, List, [], ◌∷◌, ◌++◌, length, get_or, take, None, Some, ◌⊎◌, inl, inr, refl, ap, sym, ◌∙◌, subst, arith}
 use Rattle.std.specs.List.{All, Contains, slice_get}
 use Rattle.std.specs.Option.{is_some}
 use Rattle.std.specs.Str.{bytes_eq}
@@ -10,7 +10,6 @@ use Rattle.std.proofs.lemmas.Slice.Eq.{bytes_eq-Decides}
 use Rattle.vd_base.specs.declared.ctype.Field.{Field}
 use Rattle.vd_base.specs.Layout.{Table, are_fields, fields_of, has_struct, refusal}
 use Rattle.vd_base.specs.LayoutLaws.{IsMade}
-use Rattle.vd_heads.specs.declared.content.Content.{Content}
 use Rattle.vd_heads.specs.declared.content.Content.TheVariants as content
 use Rattle.vd_heads.specs.declared.content.Part.{Part}
 use Rattle.vd_heads.specs.declared.table.Space.TheVariants as space
@@ -68,9 +67,9 @@ passes_taken ws s old mid new left p t = record {
   fewer = (let f = p.fewer in let l = length_push ws s in omega (arith, f, l));
   among = λ x h. stands_front ws (s ∷ []) x (p.among x h);
   done = λ x h. elim (stands_push ws s x h) [
-      inl old ↦ elim (p.done x old) [ inl has ↦ inl (taken_keeps mid s new x.name.now t has) | inr waits ↦ inr waits ]
+    | inl old ↦ elim (p.done x old) [ inl has ↦ inl (taken_keeps mid s new x.name.now t has) | inr waits ↦ inr waits ]
     | inr e ↦ inl (ap (λ y. has_struct new y.name.now) e ∙ taken_has mid s new t)
-    ];
+  ];
   still = λ e. absurd (let f = p.fewer in let l = length_push ws s in omega (arith, f, l, e));
 }
 
@@ -80,24 +79,26 @@ passes_refused ws s old mid left p r = record {
   fewer = (let f = p.fewer in let l = length_push ws s in let m = length_push left s in omega (arith, f, l, m));
   among = λ x h. elim (stands_push left s x h) [ inl was ↦ stands_front ws (s ∷ []) x (p.among x was) | inr e ↦ at x e ];
   done = λ x h. elim (stands_push ws s x h) [
-      inl was ↦ elim (p.done x was) [ inl has ↦ inl has | inr waits ↦ inr (stands_front left (s ∷ []) x waits) ]
+    | inl was ↦ elim (p.done x was) [ inl has ↦ inl has | inr waits ↦ inr (stands_front left (s ∷ []) x waits) ]
     | inr e ↦ inr (in_left x e)
-    ];
+  ];
   still = λ e. (let q = p.still (let l = length_push ws s in let m = length_push left s in omega (arith, l, m, e)) in (q.0, λ x h. elim (stands_push ws s x h) [ inl was ↦ q.1 x was | inr f ↦ here q.0 x f ]));
 } where
   at : (x : StructSeen) → x ≡ s → Stands (ws ++ s ∷ []) x
   at x e = let P : StructSeen → Type 0 = λ y. Stands (ws ++ s ∷ []) y in subst P (sym e) (stands_last ws s)
+
   in_left : (x : StructSeen) → x ≡ s → Stands (left ++ s ∷ []) x
   in_left x e = let P : StructSeen → Type 0 = λ y. Stands (left ++ s ∷ []) y in subst P (sym e) (stands_last left s)
+
   here : mid ≡ old → (x : StructSeen) → x ≡ s → IsRefused old x
   here e x f = let P : Table → Type 0 = λ t. IsRefused t s in let Q : StructSeen → Type 0 = λ y. IsRefused old y in subst Q (sym f) (subst P e r)
 
 passes_push : (ws : List StructSeen) (s : StructSeen) (old mid new : Table) (left after : List StructSeen) → Passes old mid ws left → IsVisited s mid new left after → Passes old new (ws ++ s ∷ []) after
 passes_push ws s old mid new left after p v = elim v [
-    inl t ↦ (let P : List StructSeen → Type 0 = λ l. Passes old new (ws ++ s ∷ []) l in subst P (sym t.1) (passes_taken ws s old mid new left p t.0))
+  | inl t ↦ (let P : List StructSeen → Type 0 = λ l. Passes old new (ws ++ s ∷ []) l in subst P (sym t.1) (passes_taken ws s old mid new left p t.0))
   | inr r ↦ (let P : List StructSeen → Type 0 = λ l. Passes old mid (ws ++ s ∷ []) l in let Q : Table → Type 0 = λ t. Passes old t (ws ++ s ∷ []) after in
       subst Q (sym r.1) (subst P (sym r.2) (passes_refused ws s old mid left p r.0)))
-  ]
+]
 
 pub passes_more : (ws : List StructSeen) (i : ℕ) (s : StructSeen) (old mid new : Table) (left after : List StructSeen) → i < length ws → s ≡ get_or ws i s → Passes old mid (take i ws) left → IsVisited s mid new left after
     → Passes old new (take (i + 1) ws) after
@@ -136,8 +137,10 @@ settled seen old now new waiting ws left e same_length s q = record {
 } where
   p : Passes now new waiting left
   p = let P : List StructSeen → Type 0 = λ xs. Passes now new xs left in subst P e q
+
   still : (new ≡ now) × ((x : StructSeen) → Stands waiting x → IsRefused now x)
   still = p.still same_length
+
   refused : (x : StructSeen) → IsRefused now x → IsRefused new x
   refused x r = let P : Table → Type 0 = λ t. IsRefused t x in subst P (sym still.0) r
 
@@ -194,21 +197,23 @@ has_structs view own one order ws left seen empty first table tried nothing orde
 } where
   p : Passes [] first order left
   p = let P : List StructSeen → Type 0 = λ xs. Passes [] first xs left in let Q : Table → Type 0 = λ t. Passes t first ws left in subst P tried (subst Q nothing q)
+
   fits : Fits view.parts.now table
   fits = fits_grown view.parts.now seen first table (meant_at view own seen all.meant) (fits_grown view.parts.now order [] first (meant_at view own order ordered) (fits_none view.parts.now) p.grows) settles.grows
+
   most : (name : Bytes) (fields : List Field) → Means view.parts.now 0 space.Struct name (content.Struct name fields) → are_fields fields ≡ true → fields_of table name ≡ None
       → Names seen name → refusal table name fields ≢ None
   most name fields means filled lacks n refused =
       let stands = stands_in seen n.known n.stands in
       let e = one space.Struct name (content.Struct name n.known.fields.now) (content.Struct name fields)
-          (subst (λ x. Means view.parts.now 0 space.Struct x (content.Struct x n.known.fields.now)) n.named (meant_at view own seen all.meant n.known stands)) means in
+      (subst (λ x. Means view.parts.now 0 space.Struct x (content.Struct x n.known.fields.now)) n.named (meant_at view own seen all.meant n.known stands)) means in
       let g : n.known.fields.now ≡ fields = cc in
       elim (settles.settled n.known stands) [
-        inl has ↦ no (sym has ∙ (ap (λ x. has_struct table x) n.named ∙ ap is_some lacks))
-      | inr refuses ↦ refuses (ap are_fields g ∙ filled) (ap (λ x. refusal table x n.known.fields.now) n.named ∙ (ap (refusal table name) g ∙ refused))
+        | inl has ↦ no (sym has ∙ (ap (λ x. has_struct table x) n.named ∙ ap is_some lacks))
+        | inr refuses ↦ refuses (ap are_fields g ∙ filled) (ap (λ x. refusal table x n.known.fields.now) n.named ∙ (ap (refusal table name) g ∙ refused))
       ] where
-    no : true ≡ false → ⊥
-    no h = cc
+        no : true ≡ false → ⊥
+        no h = cc
 
 pub tried_refused : (old : Table) (s : StructSeen) (new : Table) (name : Bytes) (fields : List Field) → name ≡ s.name.now → fields ≡ s.fields.now → new ≡ old → (taken : Bool) → (taken ≡ false) × (refusal old name fields ≢ None)
     → IsTried old s new taken

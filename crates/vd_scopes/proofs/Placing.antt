@@ -55,9 +55,9 @@ alike_here a b h = ap told (plus_none a) ∙ (h 0 ∙ ap told (sym (plus_none b)
 
 bounded : (most top x p : ℕ) → top ≤ most → min (min x most + p) top ≡ min (x + p) top
 bounded most top x p h = elim (cases_lt most x) [
-    inl k ↦ ap (λ y. min (y + p) top) (min-eq_right (omega (arith, k))) ∙ (min-eq_right (omega (arith, h)) ∙ sym (min-eq_right (omega (arith, h, k))))
+  | inl k ↦ ap (λ y. min (y + p) top) (min-eq_right (omega (arith, k))) ∙ (min-eq_right (omega (arith, h)) ∙ sym (min-eq_right (omega (arith, h, k))))
   | inr k ↦ ap (λ y. min (y + p) top) (min-eq_left k)
-  ]
+]
 
 moved : (a n p : ℕ) → a + n + p ≡ a + (n + p)
 moved a n p = omega arith

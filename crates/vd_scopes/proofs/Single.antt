@@ -1,7 +1,7 @@
 -- Texts say one thing as the inputs of a work.
 use Rattle.std.proofs.Common.{◌≡◌, ◌≢◌, ◌∙◌, ◌-◌, ◌+◌, ◌^◌, min, ℕ, List, [], ◌∷◌, ◌++◌, length, flat_map, Option, None, Some, Result, Ok, Err, refl, ap, sym, subst}
 use Rattle.vd_cparse.specs.declared.parts.Decl.{Decl}
-use Rattle.vd_cparse.specs.Section.{AnswersDecl}
+use Rattle.vd_cparse.proofs.Texts.{decl_exact}
 use Rattle.vd_grammar.specs.declared.fault.ParseFault.{ParseFault}
 use Rattle.vd_grammar.specs.declared.fault.ParseFault.TheVariants as fault
 use Rattle.vd_heads.specs.declared.content.Content.{Content}
@@ -20,15 +20,14 @@ use Rattle.vd_outline.specs.Fault.{IsBad}
 use Rattle.vd_outline.specs.Outline.{Bytes, HasHead, Outlines, head_line}
 use Rattle.vd_outline.proofs.TextLaws.{one_outline, one_fault, has_head, no_outline}
 use Rattle.vd_sparse.specs.declared.text.LogicText.{LogicText}
-use Rattle.vd_sparse.specs.Sections.{AnswersLogic}
-use Rattle.vd_scopes.specs.Answers.{HasLines, IsSplit}
+use Rattle.vd_section.specs.HeaderLine.{word_of}
+use Rattle.vd_sparse.specs.Sections.{kind_of}
+use Rattle.vd_sparse.specs.Whole.{exact}
+use Rattle.vd_scopes.specs.declared.scope.Scopes.{Scopes}
+use Rattle.vd_scopes.specs.declared.verdict.HeadFault.{HeadFault}
+use Rattle.vd_scopes.specs.declared.verdict.HeadFault.TheVariants as head_fault
+use Rattle.vd_scopes.specs.Answers.{Answers, AnswersTexts, AreInputs, HasLines, IsSplit, SaySomething}
 use Rattle.vd_scopes.specs.Head.{AllSay, AreParts, DeclaresC, DeclaresLogic, IsPart, Lists, Says, bad, broken, declaration, headless, listing, logic_content, no_part, nothing, one_more, outlined, section_then}
-
-OneC : Type 0
-OneC = (text : List ℕ) (a b : Result Decl ParseFault) → AnswersDecl text a → AnswersDecl text b → a ≢ Err fault.Memory → b ≢ Err fault.Memory → a ≡ b
-
-OneLogic : Type 0
-OneLogic = (text : List ℕ) (a b : Result LogicText ParseFault) → AnswersLogic text a → AnswersLogic text b → a ≢ Err fault.Memory → b ≢ Err fault.Memory → a ≡ b
 
 head_section : ℕ → Content → HeadSection
 head_section place c = record { place = place; content = c }
@@ -62,7 +61,7 @@ same_last (z ∷ xs) (w ∷ ys) x y e =
     let r = same_last xs ys x y p.1 in
     (ap (λ v. v ∷ xs) p.0 ∙ ap (λ vs. w ∷ vs) r.0, r.1)
 
-pub one_split : (texts front other : List Bytes) (lines others : Option Bytes) → IsSplit texts front lines → IsSplit texts other others → (front ≡ other) × (lines ≡ others)
+one_split : (texts front other : List Bytes) (lines others : Option Bytes) → IsSplit texts front lines → IsSplit texts other others → (front ≡ other) × (lines ≡ others)
 one_split texts front other None None a b = (a.0 ∙ sym b.0, refl)
 one_split texts front other None (Some line) a b = absurd (a.1 other line b)
 one_split texts front other (Some line) None a b = absurd (b.1 front line a)
@@ -73,54 +72,75 @@ one_split texts front other (Some line) (Some last) a b = let r = same_last fron
 outline_head : (text : Bytes) (o : Outline) → Outlines text o → HasHead text o.kind o.name
 outline_head text o s = record { rest = flat_map (λ s. s.text) o.sections; cut = s.bytes; named = s.named }
 
-module _ (one_c : OneC) (one_logic : OneLogic) where
-  one_lists : (make : List Mention → Content) (text : Bytes) (at : ℕ) (c d : Content) → Lists make text at c → Lists make text at d → c ≡ d
-  one_lists make text at c d x y = x.says ∙ (ap (listing make at) (one_listing text x.answer y.answer x.listed y.listed) ∙ sym y.says)
+one_lists : (make : List Mention → Content) (text : Bytes) (at : ℕ) (c d : Content) → Lists make text at c → Lists make text at d → c ≡ d
+one_lists make text at c d x y = x.says ∙ (ap (listing make at) (one_listing text x.answer y.answer x.listed y.listed) ∙ sym y.says)
 
-  one_declares : (text : Bytes) (at : ℕ) (c d : Content) → DeclaresC text at c → DeclaresC text at d → c ≡ d
-  unfolding OneC
-  one_declares text at c d x y = x.says ∙ (ap (declaration at) (one_c text x.answer y.answer x.read y.read x.certain y.certain) ∙ sym y.says)
+one_declares : (text : Bytes) (at : ℕ) (c d : Content) → DeclaresC text at c → DeclaresC text at d → c ≡ d
+one_declares text at c d x y = x.says ∙ (ap (declaration at) (decl_exact text x.answer y.answer x.read y.read x.certain y.certain) ∙ sym y.says)
 
-  one_says_logic : (text : Bytes) (at : ℕ) (c d : Content) → DeclaresLogic text at c → DeclaresLogic text at d → c ≡ d
-  unfolding OneLogic
-  one_says_logic text at c d x y = x.says ∙ (ap (logic_content at) (one_logic text x.answer y.answer x.read y.read x.certain y.certain) ∙ sym y.says)
+one_says_logic : (text : Bytes) (at : ℕ) (c d : Content) → DeclaresLogic text at c → DeclaresLogic text at d → c ≡ d
+one_says_logic text at c d x y = x.says ∙ (ap (logic_content at) (exact (kind_of (word_of text)) text x.answer y.answer x.read y.read x.certain y.certain) ∙ sym y.says)
 
-  one_says : (k : SectionKind) (text : Bytes) (at : ℕ) (c d : Content) → Says k text at c → Says k text at d → c ≡ d
-  one_says section.Uses text at c d x y = one_lists (λ names. content.Uses names) text at c d x y
-  one_says section.Exports text at c d x y = one_lists (λ names. content.Exports names) text at c d x y
-  one_says section.Units text at c d x y = one_lists (λ names. content.Uses names) text at c d x y
-  one_says section.Struct text at c d x y = one_declares text at c d x y
-  one_says section.Global text at c d x y = one_declares text at c d x y
-  one_says section.Abstract text at c d x y = one_says_logic text at c d x y
-  one_says section.Pred text at c d x y = one_says_logic text at c d x y
-  one_says section.Spec text at c d x y = one_says_logic text at c d x y
-  one_says section.Fn text at c d x y = one_lists (λ names. content.Uses names) text at c d x y
-  one_says section.Script text at c d x y = one_lists (λ names. content.Uses names) text at c d x y
-  one_says section.Sub text at c d x y = one_lists (λ names. content.Uses names) text at c d x y
-  one_says section.Init text at c d x y = one_lists (λ names. content.Uses names) text at c d x y
+one_says : (k : SectionKind) (text : Bytes) (at : ℕ) (c d : Content) → Says k text at c → Says k text at d → c ≡ d
+one_says section.Uses text at c d x y = one_lists (λ names. content.Uses names) text at c d x y
+one_says section.Exports text at c d x y = one_lists (λ names. content.Exports names) text at c d x y
+one_says section.Units text at c d x y = one_lists (λ names. content.Uses names) text at c d x y
+one_says section.Struct text at c d x y = one_declares text at c d x y
+one_says section.Global text at c d x y = one_declares text at c d x y
+one_says section.Abstract text at c d x y = one_says_logic text at c d x y
+one_says section.Pred text at c d x y = one_says_logic text at c d x y
+one_says section.Spec text at c d x y = one_says_logic text at c d x y
+one_says section.Fn text at c d x y = one_lists (λ names. content.Uses names) text at c d x y
+one_says section.Script text at c d x y = one_lists (λ names. content.Uses names) text at c d x y
+one_says section.Sub text at c d x y = one_lists (λ names. content.Uses names) text at c d x y
+one_says section.Init text at c d x y = one_lists (λ names. content.Uses names) text at c d x y
 
-  one_all : (at : ℕ) (ss : List Section) (hs gs : List HeadSection) → AllSay at ss hs → AllSay at ss gs → hs ≡ gs
-  one_all at [] [] [] nothing nothing = refl
-  one_all at (s ∷ ss) (h ∷ hs) (g ∷ gs) (section_then p c x) (section_then q d y) =
-      ap (λ z. z ∷ hs) (same_section h g (p ∙ sym q) (one_says s.kind s.text at h.content g.content c d)) ∙ ap (λ zs. g ∷ zs) (one_all (at + length s.text) ss hs gs x y)
+one_all : (at : ℕ) (ss : List Section) (hs gs : List HeadSection) → AllSay at ss hs → AllSay at ss gs → hs ≡ gs
+one_all at [] [] [] nothing nothing = refl
+one_all at [] [] (g ∷ gs) x y = elim y [ ]
+one_all at [] (h ∷ hs) gs x y = elim x [ ]
+one_all at (s ∷ ss) [] gs x y = elim x [ ]
+one_all at (s ∷ ss) (h ∷ hs) [] x y = elim y [ ]
+one_all at (s ∷ ss) (h ∷ hs) (g ∷ gs) (section_then p c x) (section_then q d y) =
+    ap (λ z. z ∷ hs) (same_section h g (p ∙ sym q) (one_says s.kind s.text at h.content g.content c d)) ∙ ap (λ zs. g ∷ zs) (one_all (at + length s.text) ss hs gs x y)
 
-  one_outlined : (o other : Outline) (p q : Part) → o ≡ other → p.head ≡ Some (o.kind, o.name) → q.head ≡ Some (other.kind, other.name) → AllSay (length (head_line o.kind o.name) + 1) (head_sections o.sections) p.sections
-      → AllSay (length (head_line other.kind other.name) + 1) (head_sections other.sections) q.sections → p ≡ q
-  one_outlined o other p q e f g x y =
-      let z : AllSay (length (head_line o.kind o.name) + 1) (head_sections o.sections) q.sections = subst (λ u. AllSay (length (head_line u.kind u.name) + 1) (head_sections u.sections) q.sections) (sym e) y in
-      same_part p q (f ∙ (ap (λ u. Some (u.kind, u.name)) e ∙ sym g)) (one_all (length (head_line o.kind o.name) + 1) (head_sections o.sections) p.sections q.sections x z)
+one_outlined : (o other : Outline) (p q : Part) → o ≡ other → p.head ≡ Some (o.kind, o.name) → q.head ≡ Some (other.kind, other.name) → AllSay (length (head_line o.kind o.name) + 1) (head_sections o.sections) p.sections
+    → AllSay (length (head_line other.kind other.name) + 1) (head_sections other.sections) q.sections → p ≡ q
+one_outlined o other p q e f g x y =
+    let z : AllSay (length (head_line o.kind o.name) + 1) (head_sections o.sections) q.sections = subst (λ u. AllSay (length (head_line u.kind u.name) + 1) (head_sections u.sections) q.sections) (sym e) y in
+    same_part p q (f ∙ (ap (λ u. Some (u.kind, u.name)) e ∙ sym g)) (one_all (length (head_line o.kind o.name) + 1) (head_sections o.sections) p.sections q.sections x z)
 
-  pub one_part : (text : Bytes) (p q : Part) → IsPart text p → IsPart text q → p ≡ q
-  one_part text p q (outlined o x f s) (outlined other y g t) = one_outlined o other p q (one_outline text o other x y) f g s t
-  one_part text p q (outlined o x f s) (bad place b e) = absurd (no_outline text b.0 o b.2 x)
-  one_part text p q (outlined o x f s) (headless none e) = absurd (none o.kind o.name (outline_head text o x))
-  one_part text p q (bad place b e) (outlined o x f s) = absurd (no_outline text b.0 o b.2 x)
-  one_part text p q (bad place b e) (bad other c f) = e ∙ (ap broken (b.1 ∙ (ap (λ k. min k (2 ^ 32 - 1)) (one_fault text b.0 c.0 b.2 c.2) ∙ sym c.1)) ∙ sym f)
-  one_part text p q (bad place b e) (headless none f) = absurd (let h = has_head text b.0 b.2 in none h.0 h.1 h.2)
-  one_part text p q (headless none e) (outlined o x f s) = absurd (none o.kind o.name (outline_head text o x))
-  one_part text p q (headless none e) (bad place b f) = absurd (let h = has_head text b.0 b.2 in none h.0 h.1 h.2)
-  one_part text p q (headless none e) (headless other f) = e ∙ sym f
+one_part : (text : Bytes) (p q : Part) → IsPart text p → IsPart text q → p ≡ q
+one_part text p q (outlined o x f s) (outlined other y g t) = one_outlined o other p q (one_outline text o other x y) f g s t
+one_part text p q (outlined o x f s) (bad place b e) = absurd (no_outline text b.0 o b.2 x)
+one_part text p q (outlined o x f s) (headless none e) = absurd (none o.kind o.name (outline_head text o x))
+one_part text p q (bad place b e) (outlined o x f s) = absurd (no_outline text b.0 o b.2 x)
+one_part text p q (bad place b e) (bad other c f) = e ∙ (ap broken (b.1 ∙ (ap (λ k. min k (2 ^ 32 - 1)) (one_fault text b.0 c.0 b.2 c.2) ∙ sym c.1)) ∙ sym f)
+one_part text p q (bad place b e) (headless none f) = absurd (let h = has_head text b.0 b.2 in none h.0 h.1 h.2)
+one_part text p q (headless none e) (outlined o x f s) = absurd (none o.kind o.name (outline_head text o x))
+one_part text p q (headless none e) (bad place b f) = absurd (let h = has_head text b.0 b.2 in none h.0 h.1 h.2)
+one_part text p q (headless none e) (headless other f) = e ∙ sym f
 
-  pub are_one : (texts : List Bytes) (ps qs : List Part) → AreParts texts ps → AreParts texts qs → ps ≡ qs
-  are_one [] [] [] no_part no_part = refl
-  are_one (text ∷ texts) (p ∷ ps) (q ∷ qs) (one_more x xs) (one_more y ys) = ap (λ z. z ∷ ps) (one_part text p q x y) ∙ ap (λ zs. q ∷ zs) (are_one texts ps qs xs ys)
+are_one : (texts : List Bytes) (ps qs : List Part) → AreParts texts ps → AreParts texts qs → ps ≡ qs
+are_one [] [] [] no_part no_part = refl
+are_one [] [] (q ∷ qs) x y = elim y [ ]
+are_one [] (p ∷ ps) qs x y = elim x [ ]
+are_one (text ∷ texts) [] qs x y = elim x [ ]
+are_one (text ∷ texts) (p ∷ ps) [] x y = elim y [ ]
+are_one (text ∷ texts) (p ∷ ps) (q ∷ qs) (one_more x xs) (one_more y ys) = ap (λ z. z ∷ ps) (one_part text p q x y) ∙ ap (λ zs. q ∷ zs) (are_one texts ps qs xs ys)
+
+-- ---- what is answered of texts
+
+pub answers_texts : (texts front : List Bytes) (lines : Option Bytes) (ps : List Part) (answer : Result Scopes HeadFault) → IsSplit texts front lines → AreParts front ps → Answers ps lines answer → AnswersTexts texts answer
+answers_texts texts front lines ps answer split are judged = λ qs others inputs.
+    let s = one_split texts front inputs.front lines others split inputs.split in
+    let e : ps ≡ qs = are_one front ps qs are (subst (λ ts. AreParts ts qs) (sym s.0) inputs.are) in
+    subst (λ l. Answers qs l answer) s.1 (subst (λ rs. Answers rs lines answer) e judged)
+
+says : (texts front : List Bytes) (lines : Option Bytes) (ps : List Part) → IsSplit texts front lines → AreParts front ps → (parts : List Part) × (lines : Option Bytes) × AreInputs texts parts lines
+says texts front lines ps split are = (ps, lines, record { front = front; split = split; are = are })
+
+pub say_something : (texts front : List Bytes) (lines : Option Bytes) (ps : List Part) (answer : Result Scopes HeadFault) → IsSplit texts front lines → AreParts front ps → SaySomething texts answer
+say_something texts front lines ps (Ok scopes) split are = says texts front lines ps split are
+say_something texts front lines ps (Err (head_fault.Refused place condition)) split are = says texts front lines ps split are
+say_something texts front lines ps (Err (head_fault.Memory error)) split are = tt

@@ -11,14 +11,14 @@ ghost use Rattle.vd_heads.specs.declared.content.Content.TheVariants as content_
 ghost use Rattle.vd_listing.specs.Listing.{IsCut};
 ghost use Rattle.vd_scopes.specs.Head as head;
 
-use vd_listing::names_in;
-use vd_sparse::{LogicText, parse_logic};
 use std::alloc::{AllocError, Global};
 use vd_base::{List, Name, Text};
 use vd_cparse::{Decl, parse_decl};
 use vd_grammar::ParseFault;
-use vd_outline::{Outline, OutlineFault, Section, SectionKind, outline_of};
 use vd_heads::{Content, HeadSection, Mention, Part, head_line, is_head};
+use vd_listing::names_in;
+use vd_outline::{Outline, OutlineFault, Section, SectionKind, outline_of};
+use vd_sparse::{LogicText, parse_logic};
 
 /// The place of a byte.
 fn place_of(at: usize) -> u32

@@ -106,7 +106,7 @@ fn takes(wanted: Option<&[Sort]>, args: &List<Term>) -> bool
 }
 
 /// Whether the label's predicate takes other arguments; nothing is said of a predicate that is not known.
-fn is_misused(view: &View<'_>, label: &Label) -> bool
+fn is_misused(view: &View<'_, '_>, label: &Label) -> bool
     requires view { IsView view.now }
     requires one { IsUnambiguous view.now.parts.now view.now.own }
     ensures { IsTrue result ↔ agreement.IsMisused view.now.parts.now view.now.own label.now }
@@ -129,7 +129,7 @@ fn label_of(item: &Item) -> Option<&Label>
 }
 
 /// Whether the item's label is misused, if it has one.
-fn is_misuse(view: &View<'_>, item: &Item) -> bool
+fn is_misuse(view: &View<'_, '_>, item: &Item) -> bool
     requires view { IsView view.now }
     requires one { IsUnambiguous view.now.parts.now view.now.own }
     ensures { IsTrue result ↔ Any (agreement.IsMisused view.now.parts.now view.now.own) (item_labels item.now) }
@@ -141,7 +141,7 @@ fn is_misuse(view: &View<'_>, item: &Item) -> bool
 }
 
 /// Whether some label's predicate takes other arguments.
-fn are_misuses(view: &View<'_>, items: &[Item]) -> bool
+fn are_misuses(view: &View<'_, '_>, items: &[Item]) -> bool
     requires view { IsView view.now }
     requires one { IsUnambiguous view.now.parts.now view.now.own }
     ensures { IsTrue result ↔ Any (agreement.IsMisused view.now.parts.now view.now.own) (flat_map item_labels items.now) }
@@ -162,7 +162,7 @@ fn assertion_agrees(a: &Assertion) -> bool
         && items_agree(a.items.as_slice())
 }
 
-fn disagrees(view: &View<'_>, a: &Assertion) -> bool
+fn disagrees(view: &View<'_, '_>, a: &Assertion) -> bool
     requires view { IsView view.now }
     requires one { IsUnambiguous view.now.parts.now view.now.own }
     ensures { IsTrue result ↔ agreement.Disagrees view.now.parts.now view.now.own a.now }
@@ -173,7 +173,7 @@ fn disagrees(view: &View<'_>, a: &Assertion) -> bool
     are_misuses(view, a.items.as_slice())
 }
 
-fn some_disagrees(view: &View<'_>, assertions: &[Assertion]) -> bool
+fn some_disagrees(view: &View<'_, '_>, assertions: &[Assertion]) -> bool
     requires view { IsView view.now }
     requires one { IsUnambiguous view.now.parts.now view.now.own }
     ensures { IsTrue result ↔ Any (agreement.Disagrees view.now.parts.now view.now.own) assertions.now }
@@ -240,7 +240,7 @@ fn defined(content: &Content) -> Option<(Space, &Name)>
 }
 
 /// Whether an interface that the part exports declares there otherwise what a section defines.
-fn differs_at(view: &View<'_>, content: &Content, spot: Spot) -> bool
+fn differs_at(view: &View<'_, '_>, content: &Content, spot: Spot) -> bool
     requires { IsView view.now }
     ensures { IsTrue result ↔ agreement.DiffersAt view.now.parts.now view.now.own content.now spot.part spot.section }
 {
@@ -254,7 +254,7 @@ fn differs_at(view: &View<'_>, content: &Content, spot: Spot) -> bool
 }
 
 /// Whether an interface that the part exports declares the name otherwise, which a section defines.
-fn is_declared_otherwise(view: &View<'_>, content: &Content, space: Space, name: &Name) -> bool
+fn is_declared_otherwise(view: &View<'_, '_>, content: &Content, space: Space, name: &Name) -> bool
     requires view { IsView view.now }
     requires named { declares space name.now content.now ≡ true }
     ensures { IsTrue result ↔ agreement.IsOtherwise view.now.parts.now view.now.own content.now }
@@ -268,7 +268,7 @@ fn is_declared_otherwise(view: &View<'_>, content: &Content, space: Space, name:
 }
 
 /// Whether an interface that the part exports declares otherwise what a section defines.
-fn is_otherwise(view: &View<'_>, content: &Content) -> bool
+fn is_otherwise(view: &View<'_, '_>, content: &Content) -> bool
     requires { IsView view.now }
     ensures { IsTrue result ↔ agreement.IsOtherwise view.now.parts.now view.now.own content.now }
 {
@@ -281,7 +281,7 @@ fn is_otherwise(view: &View<'_>, content: &Content) -> bool
 /// Whether a section says something in which sorts or types disagree.
 fn is_disagreement<'a>(
     alloc: Global,
-    view: &View<'_>,
+    view: &View<'_, '_>,
     sizes: &Sizes<'a>,
     content: &'a Content,
 ) -> Result<bool, AllocError>
@@ -324,7 +324,7 @@ fn is_disagreement<'a>(
 /// The smallest place of a section in which sorts or types disagree.
 pub fn first_disagreement<'a>(
     alloc: Global,
-    view: &View<'a>,
+    view: &View<'a, '_>,
     sizes: &Sizes<'a>,
 ) -> Result<Option<u32>, AllocError>
     requires view { IsView view.now }

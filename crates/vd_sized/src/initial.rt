@@ -52,7 +52,7 @@ fn is_other(content: &Content, to: &CType) -> bool
 }
 
 /// Whether the address of a global does not convert to such a pointer.
-fn is_other_pointer(view: &View<'_>, name: &Name, to: &CType) -> bool
+fn is_other_pointer(view: &View<'_, '_>, name: &Name, to: &CType) -> bool
     requires view { IsView view.now }
     requires one { IsUnambiguous view.now.parts.now view.now.own }
     ensures { IsTrue result ↔ initial.IsOtherPointer view.now.parts.now view.now.own name.now (typ.Pointer to.now) }
@@ -64,7 +64,7 @@ fn is_other_pointer(view: &View<'_>, name: &Name, to: &CType) -> bool
 }
 
 /// Whether a value may not stand in a cell.
-fn is_unfit(view: &View<'_>, value: &Init, cell: &CType) -> bool
+fn is_unfit(view: &View<'_, '_>, value: &Init, cell: &CType) -> bool
     requires view { IsView view.now }
     requires one { IsUnambiguous view.now.parts.now view.now.own }
     ensures { IsTrue result ↔ initial.IsUnfit view.now.parts.now view.now.own value.now cell.now }
@@ -81,7 +81,7 @@ fn is_unfit(view: &View<'_>, value: &Init, cell: &CType) -> bool
 }
 
 /// Whether some value may not stand in the cell at its place.
-fn are_unfit(view: &View<'_>, values: &[Init], cells: &List<&CType>) -> bool
+fn are_unfit(view: &View<'_, '_>, values: &[Init], cells: &List<&CType>) -> bool
     requires view { IsView view.now }
     requires one { IsUnambiguous view.now.parts.now view.now.own }
     ensures { IsTrue result ↔ initial.AreUnfit view.now.parts.now view.now.own values.now (map (λ t. t.now) cells.now) }
@@ -102,7 +102,7 @@ fn are_unfit(view: &View<'_>, values: &[Init], cells: &List<&CType>) -> bool
 /// Whether a global has more initial values than cells, or one that does not fit its cell.
 pub fn has_misfits<'a>(
     alloc: Global,
-    view: &View<'_>,
+    view: &View<'_, '_>,
     sizes: &Sizes<'a>,
     global: &'a Field,
     values: &[Init],

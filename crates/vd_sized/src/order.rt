@@ -51,7 +51,7 @@ fn struct_in(content: &Content) -> Option<StructSeen<'_>>
 }
 
 /// The struct that a name means.
-fn struct_meant<'a>(view: &View<'a>, name: &Name) -> Option<StructSeen<'a>>
+fn struct_meant<'a>(view: &View<'a, '_>, name: &Name) -> Option<StructSeen<'a>>
     requires { IsView view.now }
     ensures { MatchOption result (IsNotMeant view.now name.now) (λ s. (s.name.now ≡ name.now) × IsMeant view.now s) }
 {
@@ -63,7 +63,7 @@ fn struct_meant<'a>(view: &View<'a>, name: &Name) -> Option<StructSeen<'a>>
 
 /// Adds what the name of the struct in a section means.
 fn add_struct<'a>(
-    view: &View<'a>,
+    view: &View<'a, '_>,
     section: &HeadSection,
     seen: &mut List<StructSeen<'a>>,
 ) -> Result<(), AllocError>
@@ -82,7 +82,7 @@ fn add_struct<'a>(
 
 /// Adds what the names of the structs in sections mean.
 fn add_structs<'a>(
-    view: &View<'a>,
+    view: &View<'a, '_>,
     sections: &[HeadSection],
     seen: &mut List<StructSeen<'a>>,
 ) -> Result<(), AllocError>
@@ -97,7 +97,10 @@ fn add_structs<'a>(
 }
 
 /// All structs that a part sees, one as often as its name is declared.
-pub fn structs_seen<'a>(alloc: Global, view: &View<'a>) -> Result<List<StructSeen<'a>>, AllocError>
+pub fn structs_seen<'a>(
+    alloc: Global,
+    view: &View<'a, '_>,
+) -> Result<List<StructSeen<'a>>, AllocError>
     requires { IsView view.now }
     ensures { IfOk result (AreAllSeen view.now) }
 {
@@ -125,7 +128,7 @@ impl<'a> Order<'a> {
     /// Visits the next field of a struct, or adds the struct where all are visited.
     fn advance(
         &mut self,
-        view: &View<'a>,
+        view: &View<'a, '_>,
         at: Open<'a>,
         stack: &mut List<Open<'a>>,
     ) -> Result<(), AllocError>
@@ -156,7 +159,7 @@ impl<'a> Order<'a> {
     fn add(
         &mut self,
         alloc: Global,
-        view: &View<'a>,
+        view: &View<'a, '_>,
         known: StructSeen<'a>,
     ) -> Result<(), AllocError>
         requires view { IsView view.now }
@@ -177,7 +180,10 @@ impl<'a> Order<'a> {
 }
 
 /// Structs that a part sees, each once, and mostly behind those that it holds by value.
-pub fn struct_order<'a>(alloc: Global, view: &View<'a>) -> Result<List<StructSeen<'a>>, AllocError>
+pub fn struct_order<'a>(
+    alloc: Global,
+    view: &View<'a, '_>,
+) -> Result<List<StructSeen<'a>>, AllocError>
     requires { IsView view.now }
     ensures { IfOk result (All (IsMeant view.now)) }
 {

@@ -43,7 +43,7 @@ fn values_in(content: &Content) -> usize
 }
 
 /// The most initial values of a global in the part.
-fn most_values(view: &View<'_>) -> usize
+fn most_values(view: &View<'_, '_>) -> usize
     ensures { AreEnough view.now result }
 {
     let mut most = 0;
@@ -58,7 +58,7 @@ impl<'a> Sizes<'a> {
     fn struct_cells(
         &self,
         alloc: Global,
-        view: &View<'_>,
+        view: &View<'_, '_>,
         t: &'a CType,
         name: &Name,
     ) -> Result<Option<Counted<'a>>, AllocError>
@@ -82,7 +82,7 @@ impl<'a> Sizes<'a> {
     fn single(
         &self,
         alloc: Global,
-        view: &View<'_>,
+        view: &View<'_, '_>,
         t: &'a CType,
     ) -> Result<Option<Counted<'a>>, AllocError>
         requires { is_one t.now ≡ true }
@@ -96,7 +96,7 @@ impl<'a> Sizes<'a> {
     pub fn cells(
         &self,
         alloc: Global,
-        view: &View<'_>,
+        view: &View<'_, '_>,
         t: &'a CType,
     ) -> Result<Option<Counted<'a>>, AllocError>
         requires view { IsView view.now }
@@ -121,7 +121,7 @@ impl<'a> Sizes<'a> {
     fn together(
         &self,
         alloc: Global,
-        view: &View<'_>,
+        view: &View<'_, '_>,
         fields: &'a [Field],
     ) -> Result<Option<Counted<'a>>, AllocError>
         requires view { IsView view.now }
@@ -142,7 +142,7 @@ impl<'a> Sizes<'a> {
     fn count(
         &mut self,
         alloc: Global,
-        view: &View<'_>,
+        view: &View<'_, '_>,
         known: StructSeen<'a>,
     ) -> Result<bool, AllocError>
         requires view { IsView view.now }
@@ -167,7 +167,7 @@ impl<'a> Sizes<'a> {
     fn pass(
         &mut self,
         alloc: Global,
-        view: &View<'_>,
+        view: &View<'_, '_>,
         waiting: &[StructSeen<'a>],
     ) -> Result<List<StructSeen<'a>>, AllocError>
         requires view { IsView view.now }
@@ -188,7 +188,7 @@ impl<'a> Sizes<'a> {
     fn settle(
         &mut self,
         alloc: Global,
-        view: &View<'_>,
+        view: &View<'_, '_>,
         seen: List<StructSeen<'a>>,
     ) -> Result<(), AllocError>
         requires view { IsView view.now }
@@ -207,7 +207,7 @@ impl<'a> Sizes<'a> {
     }
 
     /// The cells of all structs that the part sees.
-    pub fn of(alloc: Global, view: &View<'a>) -> Result<Sizes<'a>, AllocError>
+    pub fn of(alloc: Global, view: &View<'a, '_>) -> Result<Sizes<'a>, AllocError>
         requires view { IsView view.now }
         requires one { IsUnambiguous view.now.parts.now view.now.own }
         ensures { IfOk result (AreSizes view.now) }
@@ -227,7 +227,7 @@ impl<'a> Sizes<'a> {
     fn is_large(
         &self,
         alloc: Global,
-        view: &View<'_>,
+        view: &View<'_, '_>,
         content: &'a Content,
     ) -> Result<bool, AllocError>
         requires view { IsView view.now }
@@ -249,7 +249,7 @@ impl<'a> Sizes<'a> {
     }
 
     /// The smallest place of a section whose type is too large.
-    pub fn first_large(&self, alloc: Global, view: &View<'a>) -> Result<Option<u32>, AllocError>
+    pub fn first_large(&self, alloc: Global, view: &View<'a, '_>) -> Result<Option<u32>, AllocError>
         requires view { IsView view.now }
         requires one { IsUnambiguous view.now.parts.now view.now.own }
         requires sizes { AreSizes view.now self.now }

@@ -1,4 +1,4 @@
-use Rattle.std.proofs.Common.{sym, ◌∙◌, refl, rules}
+use Rattle.std.proofs.Common.{refl}
 use Rattle.vd_known.proofs.OwnLaws.{own_here, none_own}
 use Rattle.vd_known.proofs.completeness.has_own.Goals as goal
 

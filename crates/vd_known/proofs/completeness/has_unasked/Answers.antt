@@ -1,7 +1,7 @@
-use Rattle.std.proofs.Common.{sym, ◌∙◌, refl, rules}
+use Rattle.std.proofs.Common.{refl, rules}
+use Rattle.std.proofs.lemmas.Bool.{iff_false}
 use Rattle.vd_known.specs.Completeness.{IsSubsumed}
 use Rattle.vd_known.specs.HeaderNames.{IsIn}
-use Rattle.vd_known.proofs.ClashLaws.{true_not_false}
 use Rattle.vd_known.proofs.NamedLaws.{none_start, none_next, none_all, key_listed}
 use Rattle.vd_known.proofs.completeness.has_unasked.Goals as goal
 
@@ -13,11 +13,20 @@ loop-name-preserved c = none_next (λ f. (IsIn c.args.bodies.now.functions f × 
     (λ p. p (c.is_asked.ensures.0 (search rules)))
 
 pub returns-then-not-is_asked : goal.returns-then-not-is_asked
-returns-then-not-is_asked c = λ lines bodies.
-    (λ _. (_, ((bodies.subs.named _).0 (key_listed c.as_slice-name-items.result.now c.args.bodies.now.subs.listed c.loop-name.name-index _ c.as_slice-name-items.ensures c.loop-name-test.true),
-      λ s. true_not_false c.is_asked.result (c.is_asked.ensures.1 ((bodies.functions.named _).1 s.0, s.1)) (search rules))), λ _. refl)
+returns-then-not-is_asked c = λ lines bodies. (
+  λ _. (
+    _,
+    (
+      (bodies.subs.named _).0 (key_listed c.as_slice-name-items.result.now c.args.bodies.now.subs.listed c.loop-name.name-index _ c.as_slice-name-items.ensures c.loop-name-test.true),
+      λ s. iff_false c.is_asked.ensures (search rules) ((bodies.functions.named _).1 s.0, s.1),
+    ),
+  ),
+  λ _. refl,
+)
 
 pub returns : goal.returns
-returns c = λ lines bodies.
-    (λ e. absurd (cc), λ h. absurd (none_all (λ f. (IsIn c.args.bodies.now.functions f × IsSubsumed c.args.view.now.parts.now c.args.view.now.own f) → ⊥) c.as_slice-name-items.result.now c.args.bodies.now.subs.listed c.loop-name.name-index c.as_slice-name-items.ensures c.loop-name-test.false c.loop-name.invariant h.0
-      ((bodies.subs.named h.0).1 h.1.0) (λ i. h.1.1 ((bodies.functions.named h.0).0 i.0, i.1))))
+returns c = λ lines bodies. (
+  λ e. absurd (cc),
+  λ h. absurd (none_all (λ f. (IsIn c.args.bodies.now.functions f × IsSubsumed c.args.view.now.parts.now c.args.view.now.own f) → ⊥) c.as_slice-name-items.result.now c.args.bodies.now.subs.listed c.loop-name.name-index c.as_slice-name-items.ensures c.loop-name-test.false c.loop-name.invariant h.0
+      ((bodies.subs.named h.0).1 h.1.0) (λ i. h.1.1 ((bodies.functions.named h.0).0 i.0, i.1))),
+)

@@ -1,6 +1,5 @@
-use Rattle.std.proofs.Common.{sym, ◌∙◌, refl, rules}
-use Rattle.vd_known.specs.Completeness.{IsUnknown, IsSubsumed}
-use Rattle.vd_known.specs.HeaderNames.{IsIn}
+use Rattle.std.proofs.Common.{refl, rules}
+use Rattle.vd_known.specs.Completeness.{IsUnknown}
 use Rattle.vd_known.proofs.NamedLaws.{none_start, none_next, none_all, key_listed}
 use Rattle.vd_known.proofs.completeness.has_unspecified.Goals as goal
 

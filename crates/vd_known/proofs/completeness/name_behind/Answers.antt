@@ -1,4 +1,4 @@
-use Rattle.std.proofs.Common.{sym, ◌∙◌, rules}
+use Rattle.std.proofs.Common.{rules}
 use Rattle.vd_known.proofs.LineLaws.{other_word}
 use Rattle.vd_known.proofs.completeness.name_behind.Goals as goal
 

@@ -1,14 +1,14 @@
 use Rattle.std.proofs.Common.{refl, rules}
-use Rattle.vd_known.proofs.ClashLaws.{true_not_false}
-use Rattle.vd_known.proofs.LackLaws.{none_start, none_next, none_asks, section_asks}
+use Rattle.std.proofs.lemmas.Bool.{iff_false}
+use Rattle.vd_known.proofs.LackLaws.{none_asked, none_asks_next, none_asks, section_asks}
 use Rattle.vd_known.proofs.completeness.one_asks.Goals as goal
 
 pub loop-section-init : goal.loop-section-init
-loop-section-init c = λ lines bodies. none_start lines c.args.view.now.parts.now c.args.view.now.own c.args.sections.now
+loop-section-init c = λ lines bodies. none_asked lines c.args.view.now.parts.now c.args.view.now.own c.args.sections.now
 
 pub loop-section-preserved : goal.loop-section-preserved
-loop-section-preserved c = λ lines bodies. none_next lines c.args.view.now.parts.now c.args.view.now.own c.args.sections.now c.loop-section.section-index c.section-item.result c.loop-section-test.true c.section-item.is (c.loop-section.invariant lines bodies)
-    (λ a. true_not_false c.asks_for.result ((c.asks_for.ensures lines bodies).1 a) (search rules))
+loop-section-preserved c = λ lines bodies. none_asks_next lines c.args.view.now.parts.now c.args.view.now.own c.args.sections.now c.loop-section.section-index c.section-item.result c.loop-section-test.true c.section-item.is (c.loop-section.invariant lines bodies)
+    (iff_false (c.asks_for.ensures lines bodies) (search rules))
 
 pub returns-then-asks_for : goal.returns-then-asks_for
 returns-then-asks_for c = λ lines bodies.

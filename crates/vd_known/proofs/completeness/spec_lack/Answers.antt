@@ -1,5 +1,5 @@
 use Rattle.std.proofs.Common.{rules}
-use Rattle.vd_known.proofs.ClashLaws.{true_not_false}
+use Rattle.std.proofs.lemmas.Bool.{iff_false}
 use Rattle.vd_known.proofs.LackLaws.{served_lack, unserved_lack}
 use Rattle.vd_known.proofs.completeness.spec_lack.Goals as goal
 
@@ -7,4 +7,4 @@ pub returns-then-is_served : goal.returns-then-is_served
 returns-then-is_served c = λ lines bodies. served_lack lines c.args.view.now.parts.now c.args.view.now.own _ c.args.spec.now.name c.args.place ((c.is_served.ensures lines bodies).0 (search rules)) (search rules)
 
 pub returns-else-is_served : goal.returns-else-is_served
-returns-else-is_served c = λ lines bodies. unserved_lack lines c.args.view.now.parts.now c.args.view.now.own _ c.args.spec.now.name c.args.place (λ s. true_not_false c.is_served.result ((c.is_served.ensures lines bodies).1 s) (search rules)) (search rules)
+returns-else-is_served c = λ lines bodies. unserved_lack lines c.args.view.now.parts.now c.args.view.now.own _ c.args.spec.now.name c.args.place (iff_false (c.is_served.ensures lines bodies) (search rules)) (search rules)

@@ -1,4 +1,4 @@
-use Rattle.std.proofs.Common.{◌≡◌, ◌<◌, ◌≤◌, true, false, length, get_or, sym, ◌∙◌, ap, subst, rules, ◌&&◌}
+use Rattle.std.proofs.Common.{◌≡◌, ◌<◌, ◌≤◌, length, get_or, sym, ◌∙◌, ap, subst, rules}
 use Rattle.std.specs.List.{list_all}
 use Rattle.vd_known.specs.Known.{is_met, term_needs}
 use Rattle.vd_known.proofs.Needs.{term-Num, term-Var, term-Named, term-Global, term-App, met_one, all_more, all_fails, all_end}
@@ -24,7 +24,7 @@ pub knows_terms-loop-term-preserved : goal.knows_terms-loop-term-preserved
 knows_terms-loop-term-preserved t c =
     let same = c.as_slice-term-items.ensures in
     all_more (is_met c.args.view.now) term_needs c.args.terms.now c.loop-term.term-index c.term-item.result (subst (λ xs. c.loop-term.term-index < length xs) same c.loop-term-test.true)
-      (subst (λ xs. c.term-item.result ≡ get_or xs c.loop-term.term-index c.term-item.result) same c.term-item.is) (sym c.knows_term.ensures ∙ (search rules)) c.loop-term.invariant
+    (subst (λ xs. c.term-item.result ≡ get_or xs c.loop-term.term-index c.term-item.result) same c.term-item.is) (sym c.knows_term.ensures ∙ (search rules)) c.loop-term.invariant
 
 pub knows_terms-returns : goal.knows_terms-returns
 knows_terms-returns t c = all_end (is_met c.args.view.now) term_needs c.args.terms.now c.loop-term.term-index (subst (λ xs. length xs ≤ c.loop-term.term-index) c.as_slice-term-items.ensures c.loop-term-test.false) c.loop-term.invariant
@@ -33,4 +33,4 @@ pub knows_terms-returns-then-not-knows_term : goal.knows_terms-returns-then-not-
 knows_terms-returns-then-not-knows_term t c =
     let same = c.as_slice-term-items.ensures in
     all_fails (is_met c.args.view.now) term_needs c.args.terms.now c.loop-term.term-index c.term-item.result (subst (λ xs. c.loop-term.term-index < length xs) same c.loop-term-test.true)
-      (subst (λ xs. c.term-item.result ≡ get_or xs c.loop-term.term-index c.term-item.result) same c.term-item.is) (sym c.knows_term.ensures ∙ (search rules))
+    (subst (λ xs. c.term-item.result ≡ get_or xs c.loop-term.term-index c.term-item.result) same c.term-item.is) (sym c.knows_term.ensures ∙ (search rules))

@@ -1,4 +1,4 @@
-use Rattle.std.proofs.Common.{◌≡◌, ◌+◌, false, true, sym, ◌∙◌, subst, rules}
+use Rattle.std.proofs.Common.{◌+◌, sym, ◌∙◌, subst, rules}
 use Rattle.vd_heads.specs.Least.{IsLeastOrNone}
 use Rattle.vd_known.specs.Known.{IsUnknown}
 use Rattle.vd_known.proofs.LeastLaws.{Among, least_none, least_next, least_kept, least_all}
@@ -16,10 +16,10 @@ loop-section-preserved c =
     let n = c.loop-section.section-index in
     let h = c.section-item.result in
     elim c.if-not-branch.branch [
-      then-not-branch w ↦ subst (IsLeastOrNone (Among (IsUnknown v.parts.now v.own) hs (n + 1))) (sym (w.first-is ∙ w.least-first.ensures))
-        (least_next (IsUnknown v.parts.now v.own) hs n h c.loop-section.first c.loop-section-test.true c.section-item.is (unknown_found v h.content c.requires (sym c.in_ok-knows_content.ensures ∙ (search rules))) c.loop-section.invariant)
-    | else-not-branch w ↦ subst (IsLeastOrNone (Among (IsUnknown v.parts.now v.own) hs (n + 1))) (sym w.first-is)
-        (least_kept (IsUnknown v.parts.now v.own) hs n h c.loop-section.first c.loop-section-test.true c.section-item.is (none_unknown v h.content c.requires (sym c.in_ok-knows_content.ensures ∙ (search rules))) c.loop-section.invariant)
+      | then-not-branch w ↦ subst (IsLeastOrNone (Among (IsUnknown v.parts.now v.own) hs (n + 1))) (sym (w.first-is ∙ w.least-first.ensures))
+          (least_next (IsUnknown v.parts.now v.own) hs n h c.loop-section.first c.loop-section-test.true c.section-item.is (unknown_found v h.content c.requires (sym c.in_ok-knows_content.ensures ∙ (search rules))) c.loop-section.invariant)
+      | else-not-branch w ↦ subst (IsLeastOrNone (Among (IsUnknown v.parts.now v.own) hs (n + 1))) (sym w.first-is)
+          (least_kept (IsUnknown v.parts.now v.own) hs n h c.loop-section.first c.loop-section-test.true c.section-item.is (none_unknown v h.content c.requires (sym c.in_ok-knows_content.ensures ∙ (search rules))) c.loop-section.invariant)
     ]
 
 pub returns : goal.returns

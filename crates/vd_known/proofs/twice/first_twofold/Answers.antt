@@ -13,7 +13,7 @@ loop-name-preserved c =
     let v = c.args.view.now in
     let names = c.shared-name-items.result.now in
     subst (IsLeastOrNone (Items (λ b at. IsTwofoldAt v.parts.now v.own c.args.space b.now at) names (c.loop-name.name-index + 1))) (sym c.least_of-first.ensures)
-      (items_read (λ b at. IsTwofoldAt v.parts.now v.own c.args.space b.now at) names c.loop-name.name-index _ c.loop-name.first c.clash_place.result c.loop-name-test.true c.clash_place.ensures c.loop-name.invariant)
+    (items_read (λ b at. IsTwofoldAt v.parts.now v.own c.args.space b.now at) names c.loop-name.name-index _ c.loop-name.first c.clash_place.result c.loop-name-test.true c.clash_place.ensures c.loop-name.invariant)
 
 pub returns : goal.returns
 returns c = twofold_all c.args.view.now c.args.space c.shared-name-items.result.now c.loop-name.name-index c.loop-name.first c.requires (c.shared-name-items.ensures ∙ ap (λ d. d.shared) c.in_space.ensures) c.loop-name-test.false c.loop-name.invariant

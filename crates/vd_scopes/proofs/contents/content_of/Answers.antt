@@ -15,19 +15,19 @@ pub returns-in-Struct : goal.returns-in-Struct
 returns-in-Struct c = λ kind is.
     let s = c.args.section.now in
     elim c.in-Struct.is [
-      inl e ↦ says_by_kind s.kind section.Struct s.text c.args.at c.declaration.result e c.declaration.ensures
-    | inr e ↦ says_by_kind s.kind section.Global s.text c.args.at c.declaration.result e c.declaration.ensures
+      | inl e ↦ says_by_kind s.kind section.Struct s.text c.args.at c.declaration.result e c.declaration.ensures
+      | inr e ↦ says_by_kind s.kind section.Global s.text c.args.at c.declaration.result e c.declaration.ensures
     ]
 
 pub returns-in-Abstract : goal.returns-in-Abstract
 returns-in-Abstract c = λ kind is.
     let s = c.args.section.now in
     elim c.in-Abstract.is [
-      inl e ↦ says_by_kind s.kind section.Abstract s.text c.args.at c.logic.result e c.logic.ensures
-    | inr more ↦ elim more [
-          inl e ↦ says_by_kind s.kind section.Pred s.text c.args.at c.logic.result e c.logic.ensures
+      | inl e ↦ says_by_kind s.kind section.Abstract s.text c.args.at c.logic.result e c.logic.ensures
+      | inr more ↦ elim more [
+        | inl e ↦ says_by_kind s.kind section.Pred s.text c.args.at c.logic.result e c.logic.ensures
         | inr e ↦ says_by_kind s.kind section.Spec s.text c.args.at c.logic.result e c.logic.ensures
-        ]
+      ]
     ]
 
 pub returns-in-Uses : goal.returns-in-Uses

@@ -1,4 +1,4 @@
-use Rattle.std.proofs.Common.{[], ◌≡◌, sym, subst, arith, List}
+use Rattle.std.proofs.Common.{[], sym, subst, arith, List}
 use Rattle.vd_sized.specs.declared.order.StructSeen.{StructSeen}
 use Rattle.vd_scopes.specs.Structs.{Passes}
 use Rattle.vd_scopes.proofs.Filling.{passes_none, passes_more}

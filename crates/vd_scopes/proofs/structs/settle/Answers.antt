@@ -1,4 +1,4 @@
-use Rattle.std.proofs.Common.{◌≡◌, length, sym, ◌∙◌, arith}
+use Rattle.std.proofs.Common.{sym, ◌∙◌}
 use Rattle.vd_scopes.proofs.Filling.{settling_begun, settling_more, settled}
 use Rattle.vd_scopes.proofs.structs.settle.Goals as goal
 
