@@ -37,10 +37,10 @@ module _ (hs : List HeadSection) (n : ℕ) (h : HeadSection) (below : n < length
 
   either : (place : ℕ) → Among hs (n + 1) place → Among hs n place ⊎ (h.content ≡ content.Unread place)
   either place a = elim (cases_lt a.number n) [
-      inl k ↦ inl (record { number = a.number; section = a.section; within = k; stands = a.stands; says = a.says })
+    | inl k ↦ inl (record { number = a.number; section = a.section; within = k; stands = a.stands; says = a.says })
     | inr k ↦ (let w = a.within in let e : n ≡ a.number = omega (arith, w, k) in
         inr (ap (λ g. g.content) (same_Some h a.section (sym this ∙ (ap (slice_get hs) e ∙ a.stands))) ∙ a.says))
-    ]
+  ]
 
   pub kept : (o : Option ℕ) → ((place : ℕ) → h.content ≡ content.Unread place → ⊥) → IsLeastOrNone (Among hs n) o → IsLeastOrNone (Among hs (n + 1)) o
   kept None read before = λ at a. elim (either at a) [ inl b ↦ before at b | inr e ↦ read at e ]
@@ -55,11 +55,15 @@ module _ (hs : List HeadSection) (n : ℕ) (h : HeadSection) (below : n < length
   pub added : (o : Option ℕ) (x : ℕ) → h.content ≡ content.Unread x → IsLeastOrNone (Among hs n) o → IsLeastOrNone (Among hs (n + 1)) (Some (lesser o x))
   added None x e before = (here x e, λ at a. elim (either at a) [ inl b ↦ absurd (before at b) | inr f ↦ (let s = same_fault x at (sym e ∙ f) in omega (arith, s)) ])
   added (Some place) x e before = elim (cases_lt place x) [
-      inl l ↦ (let m = smaller place x l in (subst (Among hs (n + 1)) (sym m) (later place before.0),
-        λ at a. elim (either at a) [ inl b ↦ (let k = before.1 at b in omega (arith, k, m)) | inr f ↦ (let s = same_fault x at (sym e ∙ f) in omega (arith, s, m, l)) ]))
-    | inr l ↦ (let m = other_smaller place x l in (subst (Among hs (n + 1)) (sym m) (here x e),
-        λ at a. elim (either at a) [ inl b ↦ (let k = before.1 at b in omega (arith, k, m, l)) | inr f ↦ (let s = same_fault x at (sym e ∙ f) in omega (arith, s, m)) ]))
-    ]
+    | inl l ↦ (let m = smaller place x l in (
+      subst (Among hs (n + 1)) (sym m) (later place before.0),
+      λ at a. elim (either at a) [ inl b ↦ (let k = before.1 at b in omega (arith, k, m)) | inr f ↦ (let s = same_fault x at (sym e ∙ f) in omega (arith, s, m, l)) ],
+    ))
+    | inr l ↦ (let m = other_smaller place x l in (
+      subst (Among hs (n + 1)) (sym m) (here x e),
+      λ at a. elim (either at a) [ inl b ↦ (let k = before.1 at b in omega (arith, k, m, l)) | inr f ↦ (let s = same_fault x at (sym e ∙ f) in omega (arith, s, m)) ],
+    ))
+  ]
 
 -- ---- all sections of the part
 

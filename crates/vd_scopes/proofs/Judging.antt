@@ -45,9 +45,9 @@ module _ (parts : List Part) (own : ℕ) where
 
   one_more_holds : (condition : ℕ) → HoldBelow condition → IsLeastOrNone (FailsOf condition) None → HoldBelow (suc condition)
   one_more_holds condition before none k at below h = elim (cases_lt k condition) [
-      inl less ↦ before k at less h
+    | inl less ↦ before k at less h
     | inr not ↦ (let e : k ≡ condition = omega (arith, below, not) in none at (subst (λ n. FailsOf n at) e h))
-    ]
+  ]
 
   is_first : (condition place : ℕ) → HoldBelow condition → IsLeastOrNone (FailsOf condition) (Some place) → IsFirst (Fails parts own) condition place
   is_first condition place before h = record {

@@ -20,12 +20,12 @@ module _ (parts : List Part) (own : ℕ) where
 
   one_first : (s : Space) (name : Bytes) (i j : ℕ) (c d : Content) → IsDeclared parts s name own i c → IsFirstOwn parts own s name i → IsDeclared parts s name own j d → IsFirstOwn parts own s name j → c ≡ d
   one_first s name i j c d x first y other = elim (cases_lt i j) [
-      inl below ↦ absurd (other i c below x)
+    | inl below ↦ absurd (other i c below x)
     | inr k ↦ elim (cases_lt j i) [
-          inl above ↦ absurd (first j d above y)
-        | inr m ↦ same_place s name own i own j c d refl (omega (arith, k, m)) x y
-        ]
+      | inl above ↦ absurd (first j d above y)
+      | inr m ↦ same_place s name own i own j c d refl (omega (arith, k, m)) x y
     ]
+  ]
 
   undefined : (s : Space) (name : Bytes) → ((i : ℕ) (d : Content) → IsDeclared parts s name own i d → ⊥) → (k i n : ℕ) (c d : Content) → IsDeclared parts s name k i c → IsDefinition parts own k c n d → ⊥
   undefined s name none k i n c d x def = none i c (subst (λ m. IsDeclared parts s name m i c) def.own_is x)
@@ -51,12 +51,12 @@ module _ (parts : List Part) (own : ℕ) where
 
     one_seen : (s : Space) (name : Bytes) → ((i : ℕ) (d : Content) → IsDeclared parts s name own i d → ⊥) → (k i n j : ℕ) (c d : Content) → Sees parts own s name k i c → Sees parts own s name n j d → c ≡ d
     one_seen s name none k i n j c d x y = elim (cases_eq k n) [
-        inl p ↦ elim (cases_eq i j) [
-            inl q ↦ same_place s name k i n j c d p q x.declared y.declared
-          | inr other ↦ absurd (not_twofold s name (twofold s name none k i n j c d x y (λ e f. other f)))
-          ]
-      | inr other ↦ absurd (not_twofold s name (twofold s name none k i n j c d x y (λ e f. other e)))
+      | inl p ↦ elim (cases_eq i j) [
+        | inl q ↦ same_place s name k i n j c d p q x.declared y.declared
+        | inr other ↦ absurd (not_twofold s name (twofold s name none k i n j c d x y (λ e f. other f)))
       ]
+      | inr other ↦ absurd (not_twofold s name (twofold s name none k i n j c d x y (λ e f. other e)))
+    ]
 
     one_meaning : (s : Space) (name : Bytes) (c d : Content) → Means parts own s name c → Means parts own s name d → c ≡ d
     one_meaning s name c d (inl a) (inl b) = one_first s name a.0 b.0 c d a.1 a.2 b.1 b.2

@@ -1,14 +1,16 @@
 -- The first condition that fails of the own part with its header lines, and of the first part of which one does.
-use Rattle.std.proofs.Common.{◌≡◌, ◌≤◌, ◌<◌, ℕ, ◌+◌, List, [], ◌∷◌, length, Option, None, Some, inl, inr, refl, subst, arith}
+use Rattle.std.proofs.Common.{◌≡◌, ◌≤◌, ◌<◌, ℕ, ◌+◌, List, [], ◌∷◌, length, Option, MatchOption, None, Some, inl, inr, refl, subst, arith}
 use Rattle.std.proofs.lemmas.Bool.{cases_lt}
 use Rattle.vd_heads.specs.declared.content.Part.{Part}
 use Rattle.vd_heads.specs.declared.content.HeadSection.{HeadSection}
 use Rattle.vd_heads.specs.Declaration.{Bytes, IsSection}
+use Rattle.vd_heads.specs.Closure.{IsUnambiguous}
 use Rattle.vd_heads.specs.Least.{IsLeastOrNone}
 use Rattle.vd_known.specs.Completeness.{FailsComplete}
 use Rattle.vd_known.specs.Twice.{FailsTwice}
 use Rattle.vd_scopes.specs.Failing.{Accepts, AllHold, Fails, FailsOwn, IsFirst, IsFirstOrNone, IsFirstPart, Refuses, incomplete, of_part, twice}
 use Rattle.vd_scopes.proofs.Judging.{at_most_five}
+use Rattle.vd_scopes.proofs.Meaning.{is_unambiguous}
 
 module _ (parts : List Part) (lines : Bytes) where
   lowest_own : (condition place : ℕ) → IsFirst (Fails parts 0) condition place → (other at : ℕ) → FailsOwn parts lines other at → condition ≤ other
@@ -66,9 +68,9 @@ none_before parts k below = absurd (omega (arith, below))
 
 one_more_before : (parts : List Part) (n : ℕ) → AllHold (Fails parts n) → HoldBefore parts n → HoldBefore parts (n + 1)
 one_more_before parts n holds before k below = elim (cases_lt k n) [
-    inl less ↦ before k less
+  | inl less ↦ before k less
   | inr not ↦ (let e : n ≡ k = omega (arith, below, not) in subst (λ m. AllHold (Fails parts m)) e holds)
-  ]
+]
 
 first_part : (parts : List Part) (n condition place : ℕ) → n < length parts → HoldBefore parts n → IsFirst (Fails parts n) condition place → IsFirstPart parts condition place
 first_part parts n condition place stands before first = record { number = n; stands = stands; first = first; before = before }
@@ -100,7 +102,12 @@ empty_once place (inl t) = let d = t.2.0.first.declared in nothing_stands t.2.0.
 empty_once place (inr p) = nothing_stands 0 p.number p.section p.stands
 
 -- no name is declared twice in what the own part sees
-pub accepted_once : (parts : List Part) (lines : Option Bytes) → Accepts parts lines → (place : ℕ) → FailsTwice parts 0 place → ⊥
+accepted_once : (parts : List Part) (lines : Option Bytes) → Accepts parts lines → (place : ℕ) → FailsTwice parts 0 place → ⊥
 accepted_once [] lines a = empty_once
 accepted_once (p ∷ ps) None a = own_once (p ∷ ps) (a 0 (omega arith))
 accepted_once (p ∷ ps) (Some lines) a = own_once (p ∷ ps) (λ condition place f. a condition place (of_part f))
+
+-- where nothing was found, a name means one thing at most
+pub accepted_unambiguous : (parts : List Part) (lines : Option Bytes) (found : Option (ℕ × ℕ)) → MatchOption found (Accepts parts lines) (λ at. Refuses parts lines at.1 at.0) → found ≡ None → IsUnambiguous parts 0
+accepted_unambiguous parts lines found none e =
+    is_unambiguous parts 0 (accepted_once parts lines (subst (λ r. MatchOption r (Accepts parts lines) (λ at. Refuses parts lines at.1 at.0)) e none))

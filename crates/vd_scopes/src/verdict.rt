@@ -13,9 +13,9 @@ use crate::scope::{Scopes, scopes_of};
 use std::alloc::{AllocError, Global};
 use thiserror::Error;
 use vd_base::{List, Text};
-use vd_outline::head_of;
 use vd_heads::{Content, Part, Table, View, least};
 use vd_known::{Bodies, first_lack, first_twice, first_unknown};
+use vd_outline::head_of;
 use vd_sized::{Sizes, first_disagreement};
 
 /// Why head parts give no scopes.

@@ -13,10 +13,10 @@ loop-section-preserved c =
     let n = c.loop-section.section-index in
     let h = c.section-item.result in
     elim c.match-section.branch [
-      in-Unread w ↦ subst (IsLeastOrNone (Among hs (n + 1))) (sym (w.first-is ∙ w.least-first.ensures))
-        (added hs n h c.loop-section-test.true c.section-item.is c.loop-section.first w.in-Unread.place w.in-Unread.is c.loop-section.invariant)
-    | in_default w ↦ subst (IsLeastOrNone (Among hs (n + 1))) (sym w.first-is)
-        (kept hs n h c.loop-section-test.true c.section-item.is c.loop-section.first w.in_default.not-Unread c.loop-section.invariant)
+      | in-Unread w ↦ subst (IsLeastOrNone (Among hs (n + 1))) (sym (w.first-is ∙ w.least-first.ensures))
+          (added hs n h c.loop-section-test.true c.section-item.is c.loop-section.first w.in-Unread.place w.in-Unread.is c.loop-section.invariant)
+      | in_default w ↦ subst (IsLeastOrNone (Among hs (n + 1))) (sym w.first-is)
+          (kept hs n h c.loop-section-test.true c.section-item.is c.loop-section.first w.in_default.not-Unread c.loop-section.invariant)
     ]
 
 pub returns : goal.returns
