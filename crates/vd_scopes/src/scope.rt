@@ -165,7 +165,7 @@ fn put_sections(
 fn put_part(
     alloc: Global,
     scopes: &mut Scopes,
-    view: &View<'_>,
+    view: &View<'_, '_>,
     number: usize,
     part: &Part,
 ) -> Result<(), AllocError>
@@ -179,7 +179,7 @@ fn put_part(
 }
 
 /// The scopes of what a part sees.
-pub(crate) fn scopes_of(alloc: Global, view: &View<'_>) -> Result<Scopes, AllocError>
+pub(crate) fn scopes_of(alloc: Global, view: &View<'_, '_>) -> Result<Scopes, AllocError>
     requires view { IsView view.now }
     requires own { view.now.own ≡ 0 }
     requires one { IsUnambiguous view.now.parts.now 0 }

@@ -103,7 +103,7 @@ fn settle<'a>(
 }
 
 /// The structs that a part sees and that have a layout.
-pub(crate) fn structs_of(alloc: Global, view: &View<'_>) -> Result<Structs, AllocError>
+pub(crate) fn structs_of(alloc: Global, view: &View<'_, '_>) -> Result<Structs, AllocError>
     requires view { IsView view.now }
     requires own { view.now.own ≡ 0 }
     requires one { IsUnambiguous view.now.parts.now 0 }
