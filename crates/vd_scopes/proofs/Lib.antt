@@ -7,3 +7,4 @@ pub mod Placing
 pub mod Reading
 pub mod Refusing
 pub mod Single
+pub mod Texts

@@ -40,7 +40,7 @@ impl From<AllocError> for HeadFault {
 }
 
 /// The smallest place of a fault in a section that is not read.
-fn first_unread(view: &View<'_>) -> Option<u32>
+fn first_unread(view: &View<'_, '_>) -> Option<u32>
     ensures { IsLeastOrNone (failing.IsUnread view.now.parts.now view.now.own) result }
 {
     let mut first = None;
@@ -53,7 +53,7 @@ fn first_unread(view: &View<'_>) -> Option<u32>
 }
 
 /// The first of the conditions 1 to 5 that fails of a part, and where.
-fn first_failing(alloc: Global, view: &View<'_>) -> Result<Option<(u32, u8)>, AllocError>
+fn first_failing(alloc: Global, view: &View<'_, '_>) -> Result<Option<(u32, u8)>, AllocError>
     requires { IsView view.now }
     ensures { IfOk result (failing.IsFirstOrNone (failing.Fails view.now.parts.now view.now.own)) }
 {
@@ -79,7 +79,7 @@ fn first_failing(alloc: Global, view: &View<'_>) -> Result<Option<(u32, u8)>, Al
 /// The first of the conditions 1 to 6 that fails of the own part, where the header lines of the other sections are these.
 fn header_failing(
     alloc: Global,
-    view: &View<'_>,
+    view: &View<'_, '_>,
     lines: &Text,
 ) -> Result<Option<(u32, u8)>, AllocError>
     requires view { IsView view.now }
@@ -100,7 +100,7 @@ fn header_failing(
 fn any_failing<'a>(
     alloc: Global,
     parts: &'a [Part],
-    table: &'a Table<'a>,
+    table: &'a Table<'_>,
 ) -> Result<Option<(u32, u8)>, AllocError>
     requires { IsTable parts.now table.now }
     ensures { IfOk result (λ found. MatchOption found (failing.Accepts parts.now None) (λ at. failing.Refuses parts.now None at.1 at.0)) }
@@ -117,7 +117,7 @@ fn any_failing<'a>(
 /// The first condition that fails where these are the header lines of the own text's other sections, or none are there.
 fn first_refusal(
     alloc: Global,
-    own: &View<'_>,
+    own: &View<'_, '_>,
     lines: Option<&Text>,
 ) -> Result<Option<(u32, u8)>, AllocError>
     requires view { IsView own.now }
