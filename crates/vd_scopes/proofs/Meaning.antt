@@ -1,5 +1,5 @@
 -- Where no name is declared twice, a name means one thing at most.
-use Rattle.std.proofs.Common.{◌≡◌, ◌<◌, ◌⊎◌, ℕ, List, Some, inl, inr, refl, ap, sym, ◌∙◌, subst, arith}
+use Rattle.std.proofs.Common.{◌≡◌, ℕ, List, Some, inl, inr, refl, ap, sym, ◌∙◌, subst, arith}
 use Rattle.std.proofs.lemmas.Bool.{cases_eq, cases_lt}
 use Rattle.vd_heads.specs.declared.content.Content.{Content}
 use Rattle.vd_heads.specs.declared.content.HeadSection.{HeadSection}

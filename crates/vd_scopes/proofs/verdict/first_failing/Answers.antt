@@ -1,6 +1,5 @@
-use Rattle.std.proofs.Common.{◌≡◌, ℕ, List, Option, None, IfOk}
+use Rattle.std.proofs.Common.{◌≡◌, ℕ, List, Option, None}
 use Rattle.vd_heads.specs.declared.content.Part.{Part}
-use Rattle.vd_heads.specs.declared.view.View.{View}
 use Rattle.vd_heads.specs.Least.{IsLeastOrNone, IsPlaceOf}
 use Rattle.vd_known.specs.Known.{IsUnknown}
 use Rattle.vd_known.specs.Twice.{FailsTwice}

@@ -1,4 +1,4 @@
-use Rattle.std.proofs.Common.{◌≡◌, ◌+◌, sym, ◌∙◌, subst}
+use Rattle.std.proofs.Common.{◌+◌, sym, ◌∙◌, subst}
 use Rattle.vd_heads.specs.Least.{IsLeastOrNone}
 use Rattle.vd_scopes.proofs.FirstUnread.{Among, none_yet, kept, added, all_read}
 use Rattle.vd_scopes.proofs.verdict.first_unread.Goals as goal

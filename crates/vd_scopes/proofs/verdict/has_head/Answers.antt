@@ -1,4 +1,4 @@
-use Rattle.std.proofs.Common.{◌≡◌, Option, Some, None, MatchOption, IsTrue, ◌↔◌, refl, sym, subst}
+use Rattle.std.proofs.Common.{Option, Some, None, MatchOption, IsTrue, ◌↔◌, refl, sym, subst}
 use Rattle.std.proofs.lemmas.Bool.{false≢true}
 use Rattle.std.specs.Option.{is_some}
 use Rattle.vd_outline.specs.declared.outline.TextKind.{TextKind}

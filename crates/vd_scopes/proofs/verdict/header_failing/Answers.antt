@@ -1,8 +1,3 @@
-use Rattle.std.proofs.Common.{◌≡◌, ℕ, List, Option, None, Some, subst, sym}
-use Rattle.vd_heads.specs.declared.content.Part.{Part}
-use Rattle.vd_heads.specs.Declaration.{Bytes}
-use Rattle.vd_heads.specs.Least.{IsLeastOrNone}
-use Rattle.vd_known.specs.Completeness.{FailsComplete}
 use Rattle.vd_scopes.proofs.Refusing.{found_own, found_lack, nothing_fails}
 use Rattle.vd_scopes.proofs.verdict.header_failing.Goals as goal
 
