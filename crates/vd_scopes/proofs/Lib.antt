@@ -1,0 +1,10 @@
+pub mod Adding
+pub mod Filling
+pub mod FirstUnread
+pub mod Judging
+pub mod Meaning
+pub mod Placing
+pub mod Reading
+pub mod Refusing
+pub mod Single
+pub mod Texts

@@ -1,0 +1,5 @@
+pub mod Head
+pub mod Failing
+pub mod Structs
+pub mod Scope
+pub mod Answers
