@@ -8,9 +8,14 @@ use vd_outline::cut_at;
 pub(crate) fn failing(alloc: Global, texts: &[u8]) -> Result<(u32, u8), AllocError> {
     let mut parts = List::new(alloc);
     let mut rest = texts;
-    while let Some((text, after)) = cut_at(rest, 0) {
-        parts.push(Text::new(alloc, text)?)?;
-        rest = after;
+    for _ in 0..texts.len() {
+        match cut_at(rest, 0) {
+            Some((text, after)) => {
+                parts.push(Text::new(alloc, text)?)?;
+                rest = after;
+            }
+            None => break,
+        }
     }
     parts.push(Text::new(alloc, rest)?)?;
     match scopes(alloc, &parts) {
