@@ -1,0 +1,15 @@
+pub mod Only
+pub mod Form
+pub mod Texts
+pub mod Reading
+pub mod Closure
+pub mod Shape
+pub mod Declaration
+pub mod Conditions
+pub mod Program
+pub mod Code
+pub mod Index
+pub mod Table
+pub mod Owners
+pub mod Listed
+pub mod Results

@@ -1,0 +1,51 @@
+-- Names of things of which each should stand once, with a number of each.
+use Rattle.std.specs.Prelude.{◌≡◌, ℕ, Bool, List, [], ◌∷◌, map, Option, None, Some}
+use Rattle.std.specs.List.{filter}
+use Rattle.std.specs.Str.{bytes_eq}
+use Rattle.std.specs.BTreeMap.{get_by}
+use Rattle.std.specs.Cmp.Lexicographic.{slice_cmp}
+use Rattle.std.specs.Ordering.{nat_cmp}
+use Rattle.vd_clight.specs.declared.program.Program.{Program}
+use Rattle.vd_clight.specs.declared.typed.Part.{Part, fold-Part}
+use Rattle.vd_clight.specs.Whole.{whole_part, whole_expression, whole_place}
+use Rattle.vd_link.specs.declared.table.Table.{Table}
+use Rattle.vd_link.specs.declared.whole.Names.{Names}
+
+abbrev pub Bytes : Type 0
+Bytes = List ℕ
+
+-- the number of the one pair
+abbrev pub only : List (Bytes × ℕ) → Option ℕ
+only [] = None
+only (p ∷ []) = Some p.1
+only (p ∷ q ∷ ps) = None
+
+-- the number of a name that just one of the pairs has
+abbrev pub single : Bytes → List (Bytes × ℕ) → Option ℕ
+single name pairs = only (filter (λ p. bytes_eq p.0 name) pairs)
+
+-- what a table keeps of a name
+abbrev pub kept : Table → Bytes → Option (Option ℕ)
+kept t name = get_by (λ k. slice_cmp nat_cmp name k.now) t.numbers
+
+-- what pairs tell of a name: nothing, its number, or that it stands more than once
+abbrev pub told : List (Bytes × ℕ) → Option (Option ℕ)
+told [] = None
+told (p ∷ ps) = Some (only (p ∷ ps))
+
+-- the table is that of these pairs
+abbrev pub IsTable : Table → List (Bytes × ℕ) → Type 0
+IsTable t pairs = (name : Bytes) → kept t name ≡ told (filter (λ p. bytes_eq p.0 name) pairs)
+
+-- the table has these names, each as often as they do
+abbrev pub CountsNames : List Bytes → Table → Type 0
+CountsNames names t = IsTable t (map (λ n. (n, 0)) names)
+
+-- the names of a program's functions with how many parameters each has, and of its globals with their cells
+pub record AreNamesOf (p : Program) (names : Names) : Type 0 where
+  pub functions : IsTable names.functions (map (λ f. (f.name, f.params)) p.fns)
+  pub globals : IsTable names.globals (map (λ g. (g.name, g.cells)) p.globals)
+
+-- a step of an address, in a function of so many parameters and temporaries
+unfoldable pub is_whole_part : Program → ℕ → Part → Bool
+is_whole_part p temps = fold-Part Bool Bool Bool whole_part (whole_expression temps) (whole_place p temps)
