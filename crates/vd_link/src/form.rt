@@ -1,11 +1,12 @@
 //! The form of texts that linking takes.
 
 ghost use Rattle.std.specs.Prelude.{◌≡◌, ◌↔◌, IfOk, IsTrue};
+ghost use Rattle.std.specs.List.{list_all};
 ghost use Rattle.vd_link.specs.Form.{IsPlainText, is_plain, is_plain_kind, is_plain_section};
 
 use std::alloc::{AllocError, Global};
 use vd_base::Text;
-use vd_outline::{Outline, OutlineFault, SectionKind, TextKind, outline_of};
+use vd_outline::{Outline, OutlineFault, Section, SectionKind, TextKind, outline_of};
 
 fn is_plain_kind(kind: TextKind) -> bool
     ensures { result ≡ is_plain_kind kind }
@@ -36,15 +37,21 @@ fn is_plain_section(kind: SectionKind) -> bool
     }
 }
 
+fn are_plain_sections(sections: &[Section]) -> bool
+    ensures { result ≡ list_all (λ s. is_plain_section s.kind) sections.now }
+{
+    for section in sections {
+        if !is_plain_section(section.kind) {
+            return false;
+        }
+    }
+    true
+}
+
 fn is_plain_outline(outline: &Outline) -> bool
     ensures { result ≡ is_plain outline.now }
 {
-    is_plain_kind(outline.kind)
-        && outline
-            .sections
-            .as_slice()
-            .iter()
-            .all(|section| is_plain_section(section.kind))
+    is_plain_kind(outline.kind) && are_plain_sections(outline.sections.as_slice())
 }
 
 /// Whether a text, where it has an outline, is a unit or a link without a section that speaks of interfaces.
