@@ -33,6 +33,11 @@ abbrev pub told : List (Bytes × ℕ) → Option (Option ℕ)
 told [] = None
 told (p ∷ ps) = Some (only (p ∷ ps))
 
+-- what is kept of a name that stands once more, with this number
+abbrev pub told_more : Option (Option ℕ) → ℕ → Option ℕ
+told_more None number = Some number
+told_more (Some known) number = None
+
 -- the table is that of these pairs
 abbrev pub IsTable : Table → List (Bytes × ℕ) → Type 0
 IsTable t pairs = (name : Bytes) → kept t name ≡ told (filter (λ p. bytes_eq p.0 name) pairs)

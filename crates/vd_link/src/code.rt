@@ -7,11 +7,11 @@ ghost use Rattle.vd_link.specs.Code.{Adds, IsAlone};
 ghost use Rattle.vd_link.specs.Only.{IsOnly};
 ghost use Rattle.vd_link.specs.Program.{HasCode, HasScope, IsFunction, IsGlobal};
 
-use crate::reading::function_in;
+use crate::reading::{function_in, refused};
 use std::alloc::{AllocError, Global};
 use vd_base::List;
 use vd_clight::{CScope, GlobalDef, TypedFn};
-use vd_cparse::{Decl, ParseFault, parse_decl};
+use vd_cparse::{Decl, parse_decl};
 use vd_ctyping::{TypeFault, type_fn, typing_laws};
 use vd_heads::head_part;
 use vd_outline::{Outline, Section, SectionKind};
@@ -70,8 +70,10 @@ fn defined(
             None => Ok(None),
         },
         Ok(Decl::Struct(_, _)) => Ok(None),
-        Err(ParseFault::Bad(_)) | Err(ParseFault::Deep(_)) => Ok(None),
-        Err(ParseFault::Memory) => Err(AllocError),
+        Err(fault) => {
+            refused(fault)?;
+            Ok(None)
+        }
     }
 }
 

@@ -1,6 +1,7 @@
 //! Whether sections are read.
 
-ghost use Rattle.std.specs.Prelude.{◌↔◌, Ok, IfOk, IsTrue};
+ghost use Rattle.std.specs.Prelude.{◌≢◌, ◌↔◌, Ok, IfOk, IsTrue, OnOk};
+ghost use Rattle.vd_grammar.specs.declared.fault.ParseFault.TheVariants.{Memory};
 ghost use Rattle.vd_clight.specs.declared.syntax.FnText.{FnText as Function_text};
 ghost use Rattle.vd_cparse.specs.declared.parts.Decl.{Decl as Declared};
 ghost use Rattle.vd_cparse.specs.Section.{AnswersDecl, IsFnSection};
@@ -16,14 +17,26 @@ use vd_cparse::{ParseFault, parse_decl, parse_section};
 use vd_outline::{Section, SectionKind};
 use vd_sparse::parse_logic;
 
+/// A section is refused: want of memory says nothing of it.
+pub(crate) fn refused(fault: ParseFault) -> Result<(), AllocError>
+    ensures { OnOk result (fault ≢ Memory) }
+{
+    match fault {
+        ParseFault::Bad(_) | ParseFault::Deep(_) => Ok(()),
+        ParseFault::Memory => Err(AllocError),
+    }
+}
+
 /// The function of a section; none where it is not read.
 pub(crate) fn function_in(alloc: Global, text: &Text) -> Result<Option<FnText>, AllocError>
     ensures { IfOk result (IsOnly (IsFnSection text.now)) }
 {
     match parse_section(alloc, text) {
         Ok(function) => Ok(Some(function)),
-        Err(ParseFault::Bad(_)) | Err(ParseFault::Deep(_)) => Ok(None),
-        Err(ParseFault::Memory) => Err(AllocError),
+        Err(fault) => {
+            refused(fault)?;
+            Ok(None)
+        }
     }
 }
 
@@ -39,8 +52,10 @@ fn is_declaration(alloc: Global, text: &Text) -> Result<bool, AllocError>
 {
     match parse_decl(alloc, text) {
         Ok(_) => Ok(true),
-        Err(ParseFault::Bad(_)) | Err(ParseFault::Deep(_)) => Ok(false),
-        Err(ParseFault::Memory) => Err(AllocError),
+        Err(fault) => {
+            refused(fault)?;
+            Ok(false)
+        }
     }
 }
 
@@ -49,8 +64,10 @@ fn is_logic(alloc: Global, text: &Text) -> Result<bool, AllocError>
 {
     match parse_logic(alloc, text) {
         Ok(_) => Ok(true),
-        Err(ParseFault::Bad(_)) | Err(ParseFault::Deep(_)) => Ok(false),
-        Err(ParseFault::Memory) => Err(AllocError),
+        Err(fault) => {
+            refused(fault)?;
+            Ok(false)
+        }
     }
 }
 

@@ -1,7 +1,7 @@
 //! Names of things of which each should stand once.
 
 ghost use Rattle.std.specs.Prelude.{◌≡◌, ◌++◌, ◌∷◌, [], List, ℕ, OnOk};
-ghost use Rattle.vd_link.specs.Table.{Bytes, IsTable, single};
+ghost use Rattle.vd_link.specs.Table.{Bytes, IsTable, kept, single, told_more};
 
 use std::alloc::{AllocError, Global};
 use std::collections::BTreeMap;
@@ -21,15 +21,22 @@ impl<'p> Table<'p> {
         }
     }
 
+    /// What there is to keep of a name that stands once more, with this number.
+    fn told_more(&self, name: &[u8], number: u32) -> Option<u32>
+        ensures { result ≡ told_more (kept self.now name.now) number }
+    {
+        match self.numbers.get(name) {
+            Some(_) => None,
+            None => Some(number),
+        }
+    }
+
     /// Adds a name with its number.
     pub(crate) fn add(&mut self, name: &'p [u8], number: u32) -> Result<(), AllocError>
         ensures { OnOk result ((pairs : List (Bytes × ℕ)) → IsTable self.old pairs → IsTable self.new (pairs ++ (name.now, number) ∷ [])) }
     {
-        let number = match self.numbers.get(name) {
-            Some(_) => None,
-            None => Some(number),
-        };
-        self.numbers.insert(name, number)?;
+        let told = self.told_more(name, number);
+        self.numbers.insert(name, told)?;
         Ok(())
     }
 

@@ -1,13 +1,13 @@
 //! Texts by their names.
 
-ghost use Rattle.std.specs.Prelude.{◌≡◌, List as Items, IfOk, MatchOption, option_copied};
+ghost use Rattle.std.specs.Prelude.{◌≡◌, ◌++◌, ◌∷◌, [], ℕ, List as Items, IfOk, OnOk, MatchOption, option_copied};
 ghost use Rattle.vd_link.specs.Form.{Entry};
 ghost use Rattle.vd_link.specs.Index.{IsIndexOf};
 ghost use Rattle.vd_link.specs.Texts.{IsMissing, IsOutlined, text_named};
 
 use std::alloc::{AllocError, Global};
 use std::collections::BTreeMap;
-use vd_base::Text;
+use vd_base::{Name, Text};
 use vd_outline::{Outline, OutlineFault, TextKind, outline_of};
 use vd_store::Snapshot;
 
@@ -18,16 +18,27 @@ pub(crate) struct Index<'s> {
 }
 
 impl<'s> Index<'s> {
+    /// Adds a text, unless its name has one.
+    fn add(&mut self, name: &'s Name, text: &'s Text) -> Result<(), AllocError>
+        ensures { (entries : Items Entry) (version : ℕ) → IsIndexOf entries self.old → OnOk result (IsIndexOf (entries ++ (name.now, version, text.now) ∷ []) self.new) }
+    {
+        let name = name.as_bytes();
+        if !self.texts.contains_key(name) {
+            self.texts.insert(name, text)?;
+        }
+        Ok(())
+    }
+
     pub(crate) fn new(alloc: Global, snapshot: &'s Snapshot) -> Result<Index<'s>, AllocError>
         ensures { IfOk result (IsIndexOf snapshot.now.texts) }
     {
-        let mut texts = BTreeMap::new(alloc);
+        let mut index = Index {
+            texts: BTreeMap::new(alloc),
+        };
         for (name, _, text) in snapshot.texts.as_slice() {
-            if texts.get(name.as_bytes()).is_none() {
-                texts.insert(name.as_bytes(), text)?;
-            }
+            index.add(name, text)?;
         }
-        Ok(Index { texts })
+        Ok(index)
     }
 
     pub(crate) fn text(&self, name: &[u8]) -> Option<&'s Text>
