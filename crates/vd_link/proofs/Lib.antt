@@ -2,5 +2,9 @@ pub mod Lists
 pub mod Listing
 pub mod Plain
 pub mod Single
-pub mod Linking
+pub mod Failing
 pub mod Twice
+pub mod Readings
+pub mod Tables
+pub mod Owning
+pub mod Named

@@ -7,6 +7,7 @@ pub mod Shape
 pub mod Declaration
 pub mod Conditions
 pub mod Program
+pub mod Alike
 pub mod Code
 pub mod Index
 pub mod Table

@@ -3,6 +3,7 @@
 ghost use Rattle.std.specs.Prelude.{◌≡◌, ◌∷◌, [], IfOk, MatchOption};
 ghost use Rattle.vd_clight.specs.declared.program.CScope.{CScope as CScope_of_parts};
 ghost use Rattle.vd_heads.specs.HeadPart as part;
+ghost use Rattle.vd_link.specs.Alike.{IsScopeOf};
 ghost use Rattle.vd_link.specs.Code.{Adds, IsAlone};
 ghost use Rattle.vd_link.specs.Only.{IsOnly};
 ghost use Rattle.vd_link.specs.Program.{HasCode, HasScope, IsFunction, IsGlobal};
@@ -133,7 +134,7 @@ fn add_sections(
 
 /// The scope of the functions of a text that reaches no interface; none where its head part fails a condition.
 fn scope_of(alloc: Global, outline: &Outline) -> Result<Option<CScope>, AllocError>
-    ensures { IfOk result (λ found. MatchOption found ((scope : CScope_of_parts) → HasScope (part.head_part outline.now ∷ []) scope → ⊥) (HasScope (part.head_part outline.now ∷ []))) }
+    ensures { IfOk result (λ found. MatchOption found ((scope : CScope_of_parts) → HasScope (part.head_part outline.now ∷ []) scope → ⊥) (IsScopeOf (part.head_part outline.now ∷ []))) }
 {
     let mut parts = List::new(alloc);
     parts.push(head_part(alloc, outline)?)?;
