@@ -8,3 +8,10 @@ pub mod Readings
 pub mod Tables
 pub mod Owning
 pub mod Named
+pub mod Layers
+pub mod Singles
+pub mod Mains
+pub mod Coding
+pub mod Lookups
+pub mod Shapes
+pub mod Assembling

@@ -46,10 +46,10 @@ IsTable t pairs = (name : Bytes) → kept t name ≡ told (filter (λ p. bytes_e
 abbrev pub CountsNames : List Bytes → Table → Type 0
 CountsNames names t = IsTable t (map (λ n. (n, 0)) names)
 
--- the names of a program's functions with how many parameters each has, and of its globals with their cells
-pub record AreNamesOf (p : Program) (names : Names) : Type 0 where
-  pub functions : IsTable names.functions (map (λ f. (f.name, f.params)) p.fns)
-  pub globals : IsTable names.globals (map (λ g. (g.name, g.cells)) p.globals)
+-- The names are those of the program's functions, with how many parameters each has, and of its globals, with their cells.
+pub record AreNames (n : Names) : Type 0 where
+  pub functions : IsTable n.functions (map (λ f. (f.name, f.params)) n.program.now.fns)
+  pub globals : IsTable n.globals (map (λ g. (g.name, g.cells)) n.program.now.globals)
 
 -- a step of an address, in a function of so many parameters and temporaries
 unfoldable pub is_whole_part : Program → ℕ → Part → Bool

@@ -2,9 +2,8 @@
 
 ghost use Rattle.std.specs.Prelude.{◌≡◌, slice_get, IfOk};
 ghost use Rattle.std.specs.List.{list_all};
-ghost use Rattle.vd_clight.specs.declared.program.Program.{Program as Whole_program};
 ghost use Rattle.vd_clight.specs.Whole as whole;
-ghost use Rattle.vd_link.specs.Table.{AreNamesOf, is_whole_part};
+ghost use Rattle.vd_link.specs.Table.{AreNames, is_whole_part};
 
 use crate::table::Table;
 use std::alloc::{AllocError, Global};
@@ -13,15 +12,17 @@ use vd_clight::{Cond, GlobalDef, Init, Lval, Part, Program, Root, TExpr, TStmt, 
 /// The most cells of a global and of what `malloc` is asked for.
 const MOST_CELLS: u32 = 1048576;
 
-/// The names of a program: its functions with how many parameters each has, and its globals with their cells.
+/// A program and its names: its functions with how many parameters each has, and its globals with their cells.
 #[derive(Drop)]
 pub(crate) struct Names<'p> {
+    program: &'p Program,
     functions: Table<'p>,
     globals: Table<'p>,
 }
 
 fn names_of(alloc: Global, program: &Program) -> Result<Names<'_>, AllocError>
-    ensures { IfOk result (AreNamesOf program.now) }
+    ensures names { IfOk result AreNames }
+    ensures program { IfOk result (λ names. names.program.now ≡ program.now) }
 {
     let mut functions = Table::new(alloc);
     for f in program.fns.as_slice() {
@@ -31,12 +32,17 @@ fn names_of(alloc: Global, program: &Program) -> Result<Names<'_>, AllocError>
     for g in program.globals.as_slice() {
         globals.add(g.name.as_bytes(), g.cells)?;
     }
-    Ok(Names { functions, globals })
+    Ok(Names {
+        program,
+        functions,
+        globals,
+    })
 }
 
 impl<'p> Names<'p> {
     fn takes(&self, name: &[u8], arguments: usize) -> bool
-        ensures { (p : Whole_program) → AreNamesOf p self.now → result ≡ whole.takes p name.now arguments }
+        requires { AreNames self.now }
+        ensures { result ≡ whole.takes self.now.program.now name.now arguments }
     {
         match self.functions.single(name) {
             Some(params) => params as usize == arguments,
@@ -45,13 +51,15 @@ impl<'p> Names<'p> {
     }
 
     fn has_global(&self, name: &[u8]) -> bool
-        ensures { (p : Whole_program) → AreNamesOf p self.now → result ≡ whole.has_global p name.now }
+        requires { AreNames self.now }
+        ensures { result ≡ whole.has_global self.now.program.now name.now }
     {
         self.globals.single(name).is_some()
     }
 
     fn has_cells(&self, name: &[u8], cells: u32) -> bool
-        ensures { (p : Whole_program) → AreNamesOf p self.now → result ≡ whole.has_cells p name.now cells }
+        requires { AreNames self.now }
+        ensures { result ≡ whole.has_cells self.now.program.now name.now cells }
     {
         match self.globals.single(name) {
             Some(known) => known == cells,
@@ -61,7 +69,8 @@ impl<'p> Names<'p> {
 }
 
 fn is_whole_root(names: &Names<'_>, temps: usize, root: &Root) -> bool
-    ensures { (p : Whole_program) → AreNamesOf p names.now → result ≡ whole.is_whole_root p temps root.now }
+    requires { AreNames names.now }
+    ensures { result ≡ whole.is_whole_root names.now.program.now temps root.now }
 {
     match root {
         Root::Temp(x) => (*x as usize) < temps,
@@ -70,8 +79,10 @@ fn is_whole_root(names: &Names<'_>, temps: usize, root: &Root) -> bool
 }
 
 #[cycle(whole)]
+#[tactic(auto, using(crate::proofs::Layers::layers))]
 fn is_whole_expression(names: &Names<'_>, temps: usize, e: &TExpr) -> bool
-    ensures { (p : Whole_program) → AreNamesOf p names.now → result ≡ whole.is_whole_expression p temps e.now }
+    requires { AreNames names.now }
+    ensures { result ≡ whole.is_whole_expression names.now.program.now temps e.now }
 {
     match e {
         TExpr::Const(_) => true,
@@ -85,8 +96,10 @@ fn is_whole_expression(names: &Names<'_>, temps: usize, e: &TExpr) -> bool
 }
 
 #[cycle(whole)]
+#[tactic(auto, using(crate::proofs::Layers::layers))]
 fn is_whole_place(names: &Names<'_>, temps: usize, l: &Lval) -> bool
-    ensures { (p : Whole_program) → AreNamesOf p names.now → result ≡ whole.is_whole_place p temps l.now }
+    requires { AreNames names.now }
+    ensures { result ≡ whole.is_whole_place names.now.program.now temps l.now }
 {
     if !is_whole_root(names, temps, &l.root) {
         return false;
@@ -100,8 +113,10 @@ fn is_whole_place(names: &Names<'_>, temps: usize, l: &Lval) -> bool
 }
 
 #[cycle(whole)]
+#[tactic(auto, using(crate::proofs::Layers::layers))]
 fn is_whole_part(names: &Names<'_>, temps: usize, part: &Part) -> bool
-    ensures { (p : Whole_program) → AreNamesOf p names.now → result ≡ is_whole_part p temps part.now }
+    requires { AreNames names.now }
+    ensures { result ≡ is_whole_part names.now.program.now temps part.now }
 {
     match part {
         Part::Offset(_) => true,
@@ -110,7 +125,8 @@ fn is_whole_part(names: &Names<'_>, temps: usize, part: &Part) -> bool
 }
 
 fn are_whole_expressions(names: &Names<'_>, temps: usize, es: &[TExpr]) -> bool
-    ensures { (p : Whole_program) → AreNamesOf p names.now → result ≡ list_all (whole.is_whole_expression p temps) es.now }
+    requires { AreNames names.now }
+    ensures { result ≡ list_all (whole.is_whole_expression names.now.program.now temps) es.now }
 {
     for e in es {
         if !is_whole_expression(names, temps, e) {
@@ -121,7 +137,8 @@ fn are_whole_expressions(names: &Names<'_>, temps: usize, es: &[TExpr]) -> bool
 }
 
 fn is_whole_condition(names: &Names<'_>, temps: usize, c: &Cond) -> bool
-    ensures { (p : Whole_program) → AreNamesOf p names.now → result ≡ whole.is_whole_condition p temps c.now }
+    requires { AreNames names.now }
+    ensures { result ≡ whole.is_whole_condition names.now.program.now temps c.now }
 {
     match c {
         Cond::Int(_, e) => is_whole_expression(names, temps, e),
@@ -141,7 +158,8 @@ fn is_whole_target(temps: usize, target: Option<u32>) -> bool
 }
 
 fn is_whole_result(names: &Names<'_>, temps: usize, value: &Option<TExpr>) -> bool
-    ensures { (p : Whole_program) → AreNamesOf p names.now → result ≡ whole.is_whole_result p temps value.now }
+    requires { AreNames names.now }
+    ensures { result ≡ whole.is_whole_result names.now.program.now temps value.now }
 {
     match value {
         Some(e) => is_whole_expression(names, temps, e),
@@ -150,8 +168,10 @@ fn is_whole_result(names: &Names<'_>, temps: usize, value: &Option<TExpr>) -> bo
 }
 
 #[cycle(statements)]
+#[tactic(auto, using(crate::proofs::Layers::layers))]
 fn are_whole_statements(names: &Names<'_>, temps: usize, body: &[TStmt]) -> bool
-    ensures { (p : Whole_program) → AreNamesOf p names.now → result ≡ list_all (whole.is_whole_statement p temps) body.now }
+    requires { AreNames names.now }
+    ensures { result ≡ list_all (whole.is_whole_statement names.now.program.now temps) body.now }
 {
     for s in body {
         if !is_whole_statement(names, temps, s) {
@@ -162,8 +182,10 @@ fn are_whole_statements(names: &Names<'_>, temps: usize, body: &[TStmt]) -> bool
 }
 
 #[cycle(statements)]
+#[tactic(auto, using(crate::proofs::Layers::layers))]
 fn is_whole_statement(names: &Names<'_>, temps: usize, s: &TStmt) -> bool
-    ensures { (p : Whole_program) → AreNamesOf p names.now → result ≡ whole.is_whole_statement p temps s.now }
+    requires { AreNames names.now }
+    ensures { result ≡ whole.is_whole_statement names.now.program.now temps s.now }
 {
     match s {
         TStmt::Skip => true,
@@ -193,7 +215,8 @@ fn is_whole_statement(names: &Names<'_>, temps: usize, s: &TStmt) -> bool
 }
 
 fn is_whole_init(names: &Names<'_>, init: &Init) -> bool
-    ensures { (p : Whole_program) → AreNamesOf p names.now → result ≡ whole.is_whole_init p init.now }
+    requires { AreNames names.now }
+    ensures { result ≡ whole.is_whole_init names.now.program.now init.now }
 {
     match init {
         Init::Int(_) => true,
@@ -202,7 +225,8 @@ fn is_whole_init(names: &Names<'_>, init: &Init) -> bool
 }
 
 fn is_whole_global(names: &Names<'_>, g: &GlobalDef) -> bool
-    ensures { (p : Whole_program) → AreNamesOf p names.now → result ≡ whole.is_whole_global p g.now }
+    requires { AreNames names.now }
+    ensures { result ≡ whole.is_whole_global names.now.program.now g.now }
 {
     if g.cells > MOST_CELLS || g.init.len() > g.cells as usize {
         return false;
@@ -216,7 +240,8 @@ fn is_whole_global(names: &Names<'_>, g: &GlobalDef) -> bool
 }
 
 fn is_whole_function(names: &Names<'_>, f: &TypedFn) -> bool
-    ensures { (p : Whole_program) → AreNamesOf p names.now → result ≡ whole.is_whole_function p f.now }
+    requires { AreNames names.now }
+    ensures { result ≡ whole.is_whole_function names.now.program.now f.now }
 {
     are_whole_statements(names, f.temps.len(), f.body.as_slice())
 }
@@ -231,7 +256,7 @@ fn has_main(program: &Program) -> bool
 }
 
 fn are_whole_globals(names: &Names<'_>, globals: &[GlobalDef]) -> bool
-    ensures { (p : Whole_program) → AreNamesOf p names.now → result ≡ list_all (whole.is_whole_global p) globals.now }
+    ensures { result ≡ list_all (whole.is_whole_global p) globals.now }
 {
     for g in globals {
         if !is_whole_global(names, g) {
@@ -242,7 +267,7 @@ fn are_whole_globals(names: &Names<'_>, globals: &[GlobalDef]) -> bool
 }
 
 fn are_whole_functions(names: &Names<'_>, fns: &[TypedFn]) -> bool
-    ensures { (p : Whole_program) → AreNamesOf p names.now → result ≡ list_all (whole.is_whole_function p) fns.now }
+    ensures { result ≡ list_all (whole.is_whole_function p) fns.now }
 {
     for f in fns {
         if !is_whole_function(names, f) {
@@ -260,8 +285,8 @@ pub fn is_whole(alloc: Global, program: &Program) -> Result<bool, AllocError>
         return Ok(false);
     }
     let names = names_of(alloc, program)?;
-    if !are_whole_globals(&names, program.globals.as_slice()) {
+    if !are_whole_globals(&names) {
         return Ok(false);
     }
-    Ok(are_whole_functions(&names, program.fns.as_slice()))
+    Ok(are_whole_functions(&names))
 }
