@@ -1,7 +1,7 @@
 -- What units declare, and the list of it.
-use Rattle.std.proofs.Common.{◌≡◌, ◌≢◌, ◌⊎◌, ◌<◌, ◌+◌, ℕ, zero, suc, List, [], ◌∷◌, ◌++◌, length, Some, slice_get, inl, inr, refl, ap, sym, ◌∙◌, subst, arith, append_assoc, append-nil}
+use Rattle.std.proofs.Common.{◌≡◌, ◌≢◌, ◌⊎◌, ◌<◌, ◌≤◌, ◌+◌, ℕ, zero, suc, List, [], ◌∷◌, ◌++◌, length, take, get_or, Some, slice_get, inl, inr, refl, ap, sym, ◌∙◌, subst, arith, append_assoc, append-nil}
 use Rattle.std.proofs.lemmas.Bool.{cases_lt, cases_eq}
-use Rattle.std.proofs.lemmas.Option.{slice_get_within}
+use Rattle.std.proofs.lemmas.List.{length-take-le, take_all, take_more}
 use Rattle.vd_heads.specs.declared.table.Space.{Space}
 use Rattle.vd_heads.specs.Declaration.{Bytes}
 use Rattle.vd_outline.specs.declared.outline.Outline.{Outline}
@@ -33,6 +33,40 @@ pub unit_more : (k : ℕ) (os : List Outline) (o : Outline) (es ds : List Declar
 unit_more k [] o [] ds is no_units = subst (λ x. UnitsDeclare k (o ∷ []) x) (append-nil ds) (unit (subst (λ n. SectionsDeclare n 0 o.sections ds) (add_none k) is) no_units)
 unit_more k (p ∷ os) o es ds is (unit {ds = cs} {es = bs} h r) =
     subst (λ x. UnitsDeclare k (p ∷ (os ++ o ∷ [])) x) (sym (append_assoc cs bs ds)) (unit h (unit_more (suc k) os o bs ds (subst (λ n. SectionsDeclare n 0 o.sections ds) (add_more k (length os)) is) r))
+
+step : {X : Type 0} (xs : List X) (i : ℕ) (x : X) → i < length xs → x ≡ get_or xs i x → take i xs ++ x ∷ [] ≡ take (i + 1) xs
+step xs i x within at = sym (take_more xs i x within ∙ ap (λ y. take i xs ++ y ∷ []) (sym at))
+
+long : {X : Type 0} (xs : List X) (i : ℕ) → i < length xs → i ≡ 0 + length (take i xs)
+long xs i within = (let e = length-take-le i xs (omega (arith, within)) in omega (arith, e))
+
+pub adds_none : (k : ℕ) (ds : List Declaration) → AddsDeclarations k [] ds ds
+adds_none k ds = record { added = []; are = no_sections; joined = sym (append-nil ds) }
+
+pub adds_silent : (k : ℕ) (ss : List Section) (i : ℕ) (s : Section) (old new : List Declaration) → i < length ss → s ≡ get_or ss i s → ((space : Space) (name : Bytes) → Declares s space name → ⊥)
+    → AddsDeclarations k (take i ss) old new → AddsDeclarations k (take (i + 1) ss) old new
+adds_silent k ss i s old new within at none h =
+    record { added = h.added; are = subst (λ xs. SectionsDeclare k 0 xs h.added) (step ss i s within at) (silent_more k 0 (take i ss) s h.added none h.are); joined = h.joined }
+
+pub adds_declaring : (k : ℕ) (ss : List Section) (i : ℕ) (s : Section) (d : Declaration) (old mid new : List Declaration) → i < length ss → s ≡ get_or ss i s → IsOf k i s d
+    → AddsDeclarations k (take i ss) old mid → new ≡ mid ++ d ∷ [] → AddsDeclarations k (take (i + 1) ss) old new
+adds_declaring k ss i s d old mid new within at is h e = record {
+  added = h.added ++ d ∷ [];
+  are = subst (λ xs. SectionsDeclare k 0 xs (h.added ++ d ∷ [])) (step ss i s within at) (declaring_more k 0 (take i ss) s h.added d (subst (λ n. IsOf k n s d) (long ss i within) is) h.are);
+  joined = e ∙ (ap (λ xs. xs ++ d ∷ []) h.joined ∙ append_assoc old h.added (d ∷ []));
+}
+
+pub adds_all : (k : ℕ) (ss : List Section) (i : ℕ) (old new : List Declaration) → length ss ≤ i → AddsDeclarations k (take i ss) old new → AddsDeclarations k ss old new
+adds_all k ss i old new past h = subst (λ xs. AddsDeclarations k xs old new) (take_all i ss past) h
+
+pub units_next : (os : List Outline) (i : ℕ) (o : Outline) (sections : List Section) (old new : List Declaration) → i < length os → o ≡ get_or os i o → sections ≡ o.sections → UnitsDeclare 0 (take i os) old → AddsDeclarations i sections old new
+    → UnitsDeclare 0 (take (i + 1) os) new
+units_next os i o sections old new within at same h a =
+    let own : SectionsDeclare (0 + length (take i os)) 0 o.sections a.added = subst (λ n. SectionsDeclare n 0 o.sections a.added) (long os i within) (subst (λ ss. SectionsDeclare i 0 ss a.added) same a.are) in
+    subst (λ xs. UnitsDeclare 0 xs new) (step os i o within at) (subst (λ ds. UnitsDeclare 0 (take i os ++ o ∷ []) ds) (sym a.joined) (unit_more 0 (take i os) o old a.added own h))
+
+pub units_listed : (os : List Outline) (i : ℕ) (ds : List Declaration) → length os ≤ i → UnitsDeclare 0 (take i os) ds → UnitsDeclare 0 os ds
+units_listed os i ds past h = subst (λ xs. UnitsDeclare 0 xs ds) (take_all i os past) h
 
 -- ---- the list has what is declared, in its order
 

@@ -9,11 +9,15 @@ at_front [] ys n x e = absurd (cc)
 at_front (z ∷ xs) ys zero x e = e
 at_front (z ∷ xs) ys (suc n) x e = at_front xs ys n x e
 
+none_add : (n : ℕ) → 0 + n ≡ n
+none_add n = omega arith
+
+suc_add : (a b : ℕ) → suc a + b ≡ suc (a + b)
+suc_add a b = omega arith
+
 pub at_back : {X : Type 0} (xs ys : List X) (n : ℕ) → slice_get (xs ++ ys) (length xs + n) ≡ slice_get ys n
-at_back [] ys n = ap (slice_get ys) (omega arith)
-at_back (z ∷ xs) ys n = ap (slice_get (z ∷ (xs ++ ys))) (add_suc (length xs) n) ∙ at_back xs ys n where
-  add_suc : (a b : ℕ) → suc a + b ≡ suc (a + b)
-  add_suc a b = omega arith
+at_back [] ys n = ap (slice_get ys) (none_add n)
+at_back (z ∷ xs) ys n = ap (slice_get (z ∷ (xs ++ ys))) (suc_add (length xs) n) ∙ at_back xs ys n
 
 -- an element stands in front or behind
 pub in_two : {X : Type 0} (xs ys : List X) (n : ℕ) (x : X) → slice_get (xs ++ ys) n ≡ Some x

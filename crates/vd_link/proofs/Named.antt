@@ -79,3 +79,11 @@ owners_more ds i d x y within at before now s other =
 
 pub owners_all : (ds : List Declaration) (i : ℕ) (x : Owners) → length ds ≤ i → AreOwners (take i ds) x → AreOwners ds x
 owners_all ds i x past h = subst (λ xs. AreOwners xs x) (take_all i ds past) h
+
+-- the owners of a name after one more unit declares it
+pub owner_put : (name key : Bytes) (m n : BTreeMap (Bor Bytes) Owner) (o : Owner) (unit : ℕ) → key ≡ name → Changes key m n (Some o) → o ≡ joined (at_name m name) unit → (other : Bytes)
+    → at_name n other ≡ cond (bytes_eq name other) (Some (joined (at_name m other) unit)) (at_name m other)
+owner_put name key m n o unit same change is other = put name key m n o same change other ∙ go (bytes_eq name other) refl where
+  go : (b : Bool) → bytes_eq name other ≡ b → cond b (Some o) (at_name m other) ≡ cond b (Some (joined (at_name m other) unit)) (at_name m other)
+  go true e = ap Some (is ∙ ap (λ k. joined (at_name m k) unit) ((bytes_eq-Decides name other).0 e))
+  go false e = refl

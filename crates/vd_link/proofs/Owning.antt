@@ -1,6 +1,7 @@
 -- Which units declare a name: what is kept of it says whether two do.
-use Rattle.std.proofs.Common.{◌≡◌, ◌≢◌, ◌⊎◌, ℕ, zero, suc, ◌==◌, Bool, true, false, ◌&&◌, cond, List, [], ◌∷◌, ◌++◌, Option, None, Some, slice_get, inl, inr, refl, ap, sym, ◌∙◌, subst, arith}
-use Rattle.std.proofs.lemmas.Bool.{cases_eq}
+use Rattle.std.proofs.Common.{◌≡◌, ◌≢◌, ◌⊎◌, ◌<◌, ◌≤◌, ◌+◌, ℕ, zero, suc, ◌==◌, Bool, true, false, ◌&&◌, cond, List, [], ◌∷◌, ◌++◌, length, get_or, Option, None, Some, slice_get, inl, inr, refl, ap, sym, ◌∙◌, subst, arith}
+use Rattle.std.proofs.lemmas.Bool.{cases_eq, cases_lt}
+use Rattle.std.proofs.lemmas.Option.{slice_get-get_or, slice_get_within}
 use Rattle.std.proofs.lemmas.Bool.Decides.{nat_tests}
 use Rattle.std.proofs.lemmas.Slice.Eq.{bytes_eq-Decides}
 use Rattle.std.specs.Str.{bytes_eq}
@@ -10,8 +11,9 @@ use Rattle.vd_heads.specs.Declaration.{Bytes, same_space}
 use Rattle.vd_link.specs.declared.declared.Declaration.{Declaration}
 use Rattle.vd_link.specs.declared.owners.Owner.{Owner}
 use Rattle.vd_link.specs.declared.owners.Owner.TheVariants.{One, More}
-use Rattle.vd_link.specs.Listed.{IsShared}
-use Rattle.vd_link.specs.Owners.{joined, owners_from}
+use Rattle.vd_link.specs.declared.owners.Owners.{Owners}
+use Rattle.vd_link.specs.Listed.{IsFirstShared, IsShared, NoneShared}
+use Rattle.vd_link.specs.Owners.{AreOwners, joined, owner_in, owners_from}
 use Rattle.vd_link.proofs.Lists.{not_two, some_same}
 
 -- the test that a declaration is of the name
@@ -183,3 +185,30 @@ shared_is_more ds n d at h = elim (twice_cases d.space d.name.now ds) [
     let others : Stands d.space d.name.now ds h.other.unit = record { place = h.place; one = h.other; at = h.at; of = of_name d.space d.name.now h.other h.same_space h.same_name; by = refl } in
     absurd (h.apart (p.1 h.other.unit d.unit others own))
   ]
+
+-- ---- the first of them
+
+pub none_below : (ds : List Declaration) (o : Owners) (i : ℕ) (d : Declaration) → AreOwners ds o → i < length ds → d ≡ get_or ds i d → (owner_in o d.space d.name.now ≡ Some More → ⊥)
+    → ((k : ℕ) (e : Declaration) → k < i → slice_get ds k ≡ Some e → IsShared ds e → ⊥) → (k : ℕ) (e : Declaration) → k < i + 1 → slice_get ds k ≡ Some e → IsShared ds e → ⊥
+none_below ds o i d are within at not before k e lt stands shared = elim (cases_lt k i) [
+    inl below ↦ before k e below stands shared
+  | inr past ↦
+    let same : k ≡ i = omega (arith, lt, past) in
+    let own : slice_get ds i ≡ Some d = slice_get-get_or ds i d within ∙ ap Some (sym at) in
+    let one : e ≡ d = some_same e d (sym stands ∙ (ap (slice_get ds) same ∙ own)) in
+    not (are d.space d.name.now ∙ shared_is_more ds i d own (subst (IsShared ds) one shared))
+  ]
+
+pub first_here : (ds : List Declaration) (o : Owners) (i : ℕ) (d : Declaration) → AreOwners ds o → i < length ds → d ≡ get_or ds i d → owner_in o d.space d.name.now ≡ Some More
+    → ((k : ℕ) (e : Declaration) → k < i → slice_get ds k ≡ Some e → IsShared ds e → ⊥) → IsFirstShared ds d.name.now
+first_here ds o i d are within at more before = record {
+  place = i;
+  one = d;
+  at = slice_get-get_or ds i d within ∙ ap Some (sym at);
+  named = refl;
+  shared = more_is_shared ds d (sym (are d.space d.name.now) ∙ more);
+  before = before;
+}
+
+pub none_at_all : (ds : List Declaration) (i : ℕ) → length ds ≤ i → ((k : ℕ) (e : Declaration) → k < i → slice_get ds k ≡ Some e → IsShared ds e → ⊥) → NoneShared ds
+none_at_all ds i past before k e stands = before k e (let w = slice_get_within ds k e stands in omega (arith, w, past)) stands

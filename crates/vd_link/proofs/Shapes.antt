@@ -20,7 +20,7 @@ use Rattle.vd_link.specs.Results.{AreUnits, no_names, one_more}
 use Rattle.vd_link.specs.Shape.{Units, no_names as none_listed, taken}
 use Rattle.vd_link.specs.Table.{CountsNames, single}
 use Rattle.vd_link.specs.Texts.{IsMissing, IsOutlined}
-use Rattle.vd_link.proofs.Lists.{not_two, some_same}
+use Rattle.vd_link.proofs.Lists.{at_back, not_two, some_same}
 use Rattle.vd_link.proofs.Singles.{there_is}
 
 -- ---- how often names stand
@@ -101,10 +101,6 @@ none_other texts names os are once name f = elim f.bad [
 
 -- ---- each stands once
 
-later_at : {X : Type 0} (front xs : List X) (k : ℕ) (x : X) → slice_get xs k ≡ Some x → slice_get (front ++ xs) (length front + k) ≡ Some x
-later_at [] xs k x e = subst (λ n. slice_get xs n ≡ Some x) (omega arith) e
-later_at (y ∷ front) xs k x e = subst (λ n. slice_get (y ∷ (front ++ xs)) n ≡ Some x) (omega arith) (later_at front xs k x e)
-
 repeated_of : (names : List Bytes) (name : Bytes) → 2 ≤ often names name → is_repeated names name ≡ true
 repeated_of names name le = grind (arith, nat_tests)
 
@@ -120,7 +116,7 @@ units_once texts front (n ∷ names) met (o ∷ os) (one_more i r) seen once = t
       let a = seen n e in
       let s = often_append front (n ∷ names) n in
       let again = repeated_of (front ++ n ∷ names) n (omega (arith, a, own, s)) in
-      absurd (not_two (is_repeated (front ++ n ∷ names) n) again (once (length front + 0) n (later_at front (n ∷ names) 0 n refl)))
+      absurd (not_two (is_repeated (front ++ n ∷ names) n) again (once (length front + 0) n (at_back front (n ∷ names) 0)))
   seen_more : (m : Bytes) → has_name (n ∷ met) m ≡ true → 1 ≤ often (front ++ n ∷ []) m
   seen_more m h = go (bytes_eq n m) refl h where
     s : often (front ++ n ∷ []) m ≡ often front m + often (n ∷ []) m

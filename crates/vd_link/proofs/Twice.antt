@@ -98,7 +98,7 @@ module _ (texts : List Entry) (units : List Outline) (ds : List Declaration) (ar
     place = f.one.section;
     declared = named f.one.space name f.place f.one refl f.named f.at;
     twice = subst (λ x. IsTwice texts [] units f.one.space x) f.named (twice f.place f.one f.at f.shared);
-    before = λ k i s other lt d t.
+    before = λ k i s other lt d t. (
       let h = has s other k i d in
       let before : IsBefore h.one.unit h.one.section f.one.unit f.one.section = subst (λ x. IsBefore x h.one.section f.one.unit f.one.section) (sym h.of_unit) (subst (λ x. IsBefore k x f.one.unit f.one.section) (sym h.of_section) lt) in
       let sh = shared s other h.one h.of_space h.of_name t in
@@ -111,7 +111,7 @@ module _ (texts : List Entry) (units : List Outline) (ds : List Declaration) (ar
               let same : h.one ≡ f.one = some_same h.one f.one (sym (subst (λ x. slice_get ds x ≡ Some h.one) e h.at) ∙ f.at) in
               not_itself f.one.unit f.one.section (subst (λ x. IsBefore x.unit x.section f.one.unit f.one.section) same before)
             ]
-        ];
+        ]);
   }
 
   pub none_twice : NoneShared ds → (name : Bytes) → IsFirstTwice texts [] units name → ⊥
