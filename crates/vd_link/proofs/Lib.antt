@@ -15,3 +15,4 @@ pub mod Coding
 pub mod Lookups
 pub mod Shapes
 pub mod Assembling
+pub mod Places

@@ -255,10 +255,11 @@ fn has_main(program: &Program) -> bool
     }
 }
 
-fn are_whole_globals(names: &Names<'_>, globals: &[GlobalDef]) -> bool
-    ensures { result ≡ list_all (whole.is_whole_global p) globals.now }
+fn are_whole_globals(names: &Names<'_>) -> bool
+    requires { AreNames names.now }
+    ensures { result ≡ list_all (whole.is_whole_global names.now.program.now) names.now.program.now.globals }
 {
-    for g in globals {
+    for g in names.program.globals.as_slice() {
         if !is_whole_global(names, g) {
             return false;
         }
@@ -266,10 +267,11 @@ fn are_whole_globals(names: &Names<'_>, globals: &[GlobalDef]) -> bool
     true
 }
 
-fn are_whole_functions(names: &Names<'_>, fns: &[TypedFn]) -> bool
-    ensures { result ≡ list_all (whole.is_whole_function p) fns.now }
+fn are_whole_functions(names: &Names<'_>) -> bool
+    requires { AreNames names.now }
+    ensures { result ≡ list_all (whole.is_whole_function names.now.program.now) names.now.program.now.fns }
 {
-    for f in fns {
+    for f in names.program.fns.as_slice() {
         if !is_whole_function(names, f) {
             return false;
         }
