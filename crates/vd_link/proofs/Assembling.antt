@@ -1,5 +1,6 @@
 -- The program of a link is the one that its units' code makes.
-use Rattle.std.proofs.Common.{◌≡◌, ℕ, zero, suc, ◌+◌, ◌<◌, ◌≤◌, Bool, true, false, not, cond, List, [], ◌∷◌, ◌++◌, length, take, get_or, codes, Option, None, Some, All, refl, ap, sym, ◌∙◌, subst, arith, ltb}
+use Rattle.std.proofs.Common.{◌≡◌, ℕ, zero, suc, ◌+◌, ◌<◌, ◌≤◌, Bool, true, false, not, cond, List, [], ◌∷◌, ◌++◌, length, take, get_or, codes, Option, None, Some, Result, Ok, Err, IfOk, All, refl, ap, sym, ◌∙◌, subst, arith, ltb}
+use Rattle.std.specs.declared.alloc.AllocError.{AllocError}
 use Rattle.std.specs.List.{position}
 use Rattle.std.specs.Str.{bytes_eq}
 use Rattle.vd_clight.specs.declared.program.GlobalDef.{GlobalDef}
@@ -103,3 +104,8 @@ not_made fns globals p f g m w q made =
     let same : q ≡ p = same_program q p (made.has_fns ∙ sym f) (made.has_globals ∙ sym g)
       (some_same q.main p.main (sym made.main ∙ (ap (position (λ f. bytes_eq f.name (codes "main"))) made.has_fns ∙ sym m))) in
     not_two (is_whole p) (ap is_whole (sym same) ∙ made.whole) (sym w)
+
+pub program_of : (texts : List Entry) (link : Bytes) (units : List Outline) (plain : ArePlain texts) (has : HasUnits texts link units) (fns : List TypedFn) (globals : List GlobalDef) → IsOnlyCode (AreAlone units) fns globals → IsLinked texts link
+    → (r : Result (Option Program) AllocError) → IfOk r (IsOnly (IsMadeOf fns globals)) → IfOk r (IsOnly (IsProgram texts link))
+program_of texts link units plain has fns globals code linked (Ok found) h = only_program texts link units plain has fns globals code linked found h
+program_of texts link units plain has fns globals code linked (Err fault) h = h
