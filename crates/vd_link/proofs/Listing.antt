@@ -160,9 +160,9 @@ unit_here k o os s name l j h =
 pub units_only : (k : ℕ) (os : List Outline) (ds : List Declaration) → UnitsDeclare k os ds → (n : ℕ) (d : Declaration) → slice_get ds n ≡ Some d → InUnits k os d.space d.name.now d.unit d.section
 units_only k [] [] no_units n d e = absurd (cc)
 units_only k (o ∷ os) ds (unit {ds = cs} {es = bs} h r) n d e = elim (in_two cs bs n d e) [
-    inl p ↦ unit_here k o os d.space d.name.now d.unit d.section (sections_only k 0 o.sections cs h n d p.1)
+  | inl p ↦ unit_here k o os d.space d.name.now d.unit d.section (sections_only k 0 o.sections cs h n d p.1)
   | inr p ↦ unit_later k o os d.space d.name.now d.unit d.section (units_only (suc k) os bs r p.0 d p.2)
-  ]
+]
 
 has_front : (ds es : List Declaration) (s : Space) (name : Bytes) (l j : ℕ) → Has ds s name l j → Has (ds ++ es) s name l j
 has_front ds es s name l j h = record { place = h.place; one = h.one; at = at_front ds es h.place h.one h.at; of_space = h.of_space; of_name = h.of_name; of_unit = h.of_unit; of_section = h.of_section }
@@ -182,16 +182,16 @@ units_all k (u ∷ os) ds (unit {ds = cs} {es = bs} h r) (suc n) i o t s name p 
 pub units_order : (k : ℕ) (os : List Outline) (ds : List Declaration) → UnitsDeclare k os ds → (m n : ℕ) (d e : Declaration) → m < n → slice_get ds m ≡ Some d → slice_get ds n ≡ Some e → IsBefore d.unit d.section e.unit e.section
 units_order k [] [] no_units m n d e lt p q = absurd (cc)
 units_order k (o ∷ os) ds (unit {ds = cs} {es = bs} h r) m n d e lt p q = elim (in_two cs bs m d p) [
-    inl a ↦ elim (in_two cs bs n e q) [
-        inl b ↦ sections_order k 0 o.sections cs h m n d e lt a.1 b.1
-      | inr b ↦
+  | inl a ↦ elim (in_two cs bs n e q) [
+    | inl b ↦ sections_order k 0 o.sections cs h m n d e lt a.1 b.1
+    | inr b ↦
         let x : d.unit ≡ k = (sections_only k 0 o.sections cs h m d a.1).of_unit in
         let y = units_only (suc k) os bs r b.0 e b.2 in
         let z : e.unit ≡ suc k + y.at = y.unit_is in
         inl (omega (arith, x, z))
-      ]
-  | inr a ↦ elim (in_two cs bs n e q) [
-        inl b ↦ absurd (let x : m ≡ length cs + a.0 = a.1 in omega (arith, lt, b.0, x))
-      | inr b ↦ units_order (suc k) os bs r a.0 b.0 d e (let x : m ≡ length cs + a.0 = a.1 in let y : n ≡ length cs + b.0 = b.1 in omega (arith, lt, x, y)) a.2 b.2
-      ]
   ]
+  | inr a ↦ elim (in_two cs bs n e q) [
+    | inl b ↦ absurd (let x : m ≡ length cs + a.0 = a.1 in omega (arith, lt, b.0, x))
+    | inr b ↦ units_order (suc k) os bs r a.0 b.0 d e (let x : m ≡ length cs + a.0 = a.1 in let y : n ≡ length cs + b.0 = b.1 in omega (arith, lt, x, y)) a.2 b.2
+  ]
+]

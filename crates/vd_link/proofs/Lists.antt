@@ -25,9 +25,9 @@ pub in_two : {X : Type 0} (xs ys : List X) (n : ℕ) (x : X) → slice_get (xs +
 in_two [] ys n x e = inr (n, omega arith, e)
 in_two (z ∷ xs) ys zero x e = inl (omega arith, e)
 in_two (z ∷ xs) ys (suc n) x e = elim (in_two xs ys n x e) [
-    inl p ↦ inl (omega (arith, p.0), p.1)
+  | inl p ↦ inl (omega (arith, p.0), p.1)
   | inr p ↦ inr (p.0, omega (arith, p.1), p.2)
-  ]
+]
 
 pub not_two : (b : Bool) → b ≡ true → b ≡ false → ⊥
 not_two b p q = cc

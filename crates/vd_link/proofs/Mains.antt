@@ -37,9 +37,9 @@ below_or_at k n lt not = elim (cases_lt k n) [ inl below ↦ absurd (not below) 
 -- a unit without a main
 pub found_none : (units : List Outline) (n : ℕ) (o : Outline) (found : Option Bool) → slice_get units n ≡ Some o → IsOnly (IsMainIn o) None → FoundBelow units n found → FoundBelow units (n + 1) found
 found_none units n o None at none h = λ k g lt m. elim (cases_lt k n) [
-    inl below ↦ h k g below m
+  | inl below ↦ h k g below m
   | inr past ↦ (let e : k ≡ n = omega (arith, lt, past) in none g (here units n o g at (subst (λ x. HasMain units x g) e m)))
-  ]
+]
 found_none units n o (Some flag) at none h = record {
   place = h.place;
   function = h.function;
@@ -47,9 +47,9 @@ found_none units n o (Some flag) at none h = record {
   main = h.main;
   says = h.says;
   no_other = λ k g lt m. elim (cases_lt k n) [
-      inl below ↦ h.no_other k g below m
+    | inl below ↦ h.no_other k g below m
     | inr past ↦ (let e : k ≡ n = omega (arith, lt, past) in absurd (none g (here units n o g at (subst (λ x. HasMain units x g) e m))))
-    ];
+  ];
   only = h.only;
 }
 

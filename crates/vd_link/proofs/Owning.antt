@@ -120,20 +120,21 @@ module _ (s : Space) (name : Bytes) where
     known true e is =
         let same : u ≡ c.unit = grind (arith, nat_tests) in
         elim (one_cases u ds) [
-            inl p ↦ inl (p.0, λ unit h. elim (stands_cases c ds unit h) [ inl x ↦ sym (same ∙ x.1) | inr x ↦ p.1 unit x ])
+          | inl p ↦ inl (p.0, λ unit h. elim (stands_cases c ds unit h) [ inl x ↦ sym (same ∙ x.1) | inr x ↦ p.1 unit x ])
           | inr p ↦ inr (p.0, (p.1.0, stands_later c ds p.1.0 p.1.1, p.1.2))
-          ]
+        ]
     known false e is =
         let away : c.unit ≢ u = λ f. (let g : u ≡ c.unit = sym f in grind (arith, nat_tests)) in
         inr (more_stays ds, (c.unit, stands_here c ds is, away))
+
     go : (b : Bool) → is_of s name c ≡ b
         → ((owners_from (cond b (Some (joined (Some (One u)) c.unit)) (Some (One u))) ds s name ≡ Some (One u)) × ((unit : ℕ) → Stands (c ∷ ds) unit → unit ≡ u))
         ⊎ ((owners_from (cond b (Some (joined (Some (One u)) c.unit)) (Some (One u))) ds s name ≡ Some More) × ((unit : ℕ) × Stands (c ∷ ds) unit × (unit ≢ u)))
     go true is = known (u == c.unit) refl is
     go false is = elim (one_cases u ds) [
-        inl p ↦ inl (p.0, λ unit h. elim (stands_cases c ds unit h) [ inl x ↦ absurd (not_two (is_of s name c) x.0 is) | inr x ↦ p.1 unit x ])
+      | inl p ↦ inl (p.0, λ unit h. elim (stands_cases c ds unit h) [ inl x ↦ absurd (not_two (is_of s name c) x.0 is) | inr x ↦ p.1 unit x ])
       | inr p ↦ inr (p.0, (p.1.0, stands_later c ds p.1.0 p.1.1, p.1.2))
-      ]
+    ]
 
   -- two units declare the name exactly where that is kept
   pub twice_cases : (ds : List Declaration) → ((owners_from None ds s name ≡ Some More) × StandsTwice ds) ⊎ ((owners_from None ds s name ≡ Some More → ⊥) × ((a b : ℕ) → Stands ds a → Stands ds b → a ≡ b))
@@ -143,21 +144,22 @@ module _ (s : Space) (name : Bytes) where
   twice_cases (c ∷ ds) = go (is_of s name c) refl where
     one_no_more : (r : Option Owner) (u : ℕ) → r ≡ Some (One u) → r ≡ Some More → ⊥
     one_no_more r u e f = cc
+
     go : (b : Bool) → is_of s name c ≡ b
         → ((owners_from (cond b (Some (joined None c.unit)) None) ds s name ≡ Some More) × StandsTwice (c ∷ ds))
         ⊎ ((owners_from (cond b (Some (joined None c.unit)) None) ds s name ≡ Some More → ⊥) × ((a b : ℕ) → Stands (c ∷ ds) a → Stands (c ∷ ds) b → a ≡ b))
     go true is = elim (one_cases c.unit ds) [
-        inl p ↦
+      | inl p ↦
           let each : (unit : ℕ) → Stands (c ∷ ds) unit → unit ≡ c.unit = λ unit h. elim (stands_cases c ds unit h) [ inl x ↦ sym x.1 | inr x ↦ p.1 unit x ] in
           inr (one_no_more (owners_from (Some (One c.unit)) ds s name) c.unit p.0, λ a b x y. each a x ∙ sym (each b y))
       | inr p ↦ inl (p.0, record { unit = p.1.0; other = c.unit; apart = p.1.2; here = stands_later c ds p.1.0 p.1.1; there = stands_here c ds is })
-      ]
+    ]
     go false is = elim (twice_cases ds) [
-        inl p ↦ inl (p.0, record { unit = p.1.unit; other = p.1.other; apart = p.1.apart; here = stands_later c ds p.1.unit p.1.here; there = stands_later c ds p.1.other p.1.there })
+      | inl p ↦ inl (p.0, record { unit = p.1.unit; other = p.1.other; apart = p.1.apart; here = stands_later c ds p.1.unit p.1.here; there = stands_later c ds p.1.other p.1.there })
       | inr p ↦
-        let later : (unit : ℕ) → Stands (c ∷ ds) unit → Stands ds unit = λ unit h. elim (stands_cases c ds unit h) [ inl x ↦ absurd (not_two (is_of s name c) x.0 is) | inr x ↦ x ] in
-        inr (p.0, λ a b x y. p.1 a b (later a x) (later b y))
-      ]
+          let later : (unit : ℕ) → Stands (c ∷ ds) unit → Stands ds unit = λ unit h. elim (stands_cases c ds unit h) [ inl x ↦ absurd (not_two (is_of s name c) x.0 is) | inr x ↦ x ] in
+          inr (p.0, λ a b x y. p.1 a b (later a x) (later b y))
+    ]
 
 -- ---- a declaration whose name another unit declares too
 
@@ -168,36 +170,36 @@ shared_with ds d unit h away =
 
 pub more_is_shared : (ds : List Declaration) (d : Declaration) → owners_from None ds d.space d.name.now ≡ Some More → IsShared ds d
 more_is_shared ds d e = elim (twice_cases d.space d.name.now ds) [
-    inl p ↦
+  | inl p ↦
       let t = p.1 in
       elim (cases_eq d.unit t.unit) [
-          inl same ↦ shared_with ds d t.other t.there (λ f. t.apart (sym same ∙ f))
+        | inl same ↦ shared_with ds d t.other t.there (λ f. t.apart (sym same ∙ f))
         | inr away ↦ shared_with ds d t.unit t.here away
-        ]
+      ]
   | inr p ↦ absurd (p.0 e)
-  ]
+]
 
 pub shared_is_more : (ds : List Declaration) (n : ℕ) (d : Declaration) → slice_get ds n ≡ Some d → IsShared ds d → owners_from None ds d.space d.name.now ≡ Some More
 shared_is_more ds n d at h = elim (twice_cases d.space d.name.now ds) [
-    inl p ↦ p.0
+  | inl p ↦ p.0
   | inr p ↦
-    let own : Stands d.space d.name.now ds d.unit = record { place = n; one = d; at = at; of = of_name d.space d.name.now d refl refl; by = refl } in
-    let others : Stands d.space d.name.now ds h.other.unit = record { place = h.place; one = h.other; at = h.at; of = of_name d.space d.name.now h.other h.same_space h.same_name; by = refl } in
-    absurd (h.apart (p.1 h.other.unit d.unit others own))
-  ]
+      let own : Stands d.space d.name.now ds d.unit = record { place = n; one = d; at = at; of = of_name d.space d.name.now d refl refl; by = refl } in
+      let others : Stands d.space d.name.now ds h.other.unit = record { place = h.place; one = h.other; at = h.at; of = of_name d.space d.name.now h.other h.same_space h.same_name; by = refl } in
+      absurd (h.apart (p.1 h.other.unit d.unit others own))
+]
 
 -- ---- the first of them
 
 pub none_below : (ds : List Declaration) (o : Owners) (i : ℕ) (d : Declaration) → AreOwners ds o → i < length ds → d ≡ get_or ds i d → (owner_in o d.space d.name.now ≡ Some More → ⊥)
     → ((k : ℕ) (e : Declaration) → k < i → slice_get ds k ≡ Some e → IsShared ds e → ⊥) → (k : ℕ) (e : Declaration) → k < i + 1 → slice_get ds k ≡ Some e → IsShared ds e → ⊥
 none_below ds o i d are within at not before k e lt stands shared = elim (cases_lt k i) [
-    inl below ↦ before k e below stands shared
+  | inl below ↦ before k e below stands shared
   | inr past ↦
-    let same : k ≡ i = omega (arith, lt, past) in
-    let own : slice_get ds i ≡ Some d = slice_get-get_or ds i d within ∙ ap Some (sym at) in
-    let one : e ≡ d = some_same e d (sym stands ∙ (ap (slice_get ds) same ∙ own)) in
-    not (are d.space d.name.now ∙ shared_is_more ds i d own (subst (IsShared ds) one shared))
-  ]
+      let same : k ≡ i = omega (arith, lt, past) in
+      let own : slice_get ds i ≡ Some d = slice_get-get_or ds i d within ∙ ap Some (sym at) in
+      let one : e ≡ d = some_same e d (sym stands ∙ (ap (slice_get ds) same ∙ own)) in
+      not (are d.space d.name.now ∙ shared_is_more ds i d own (subst (IsShared ds) one shared))
+]
 
 pub first_here : (ds : List Declaration) (o : Owners) (i : ℕ) (d : Declaration) → AreOwners ds o → i < length ds → d ≡ get_or ds i d → owner_in o d.space d.name.now ≡ Some More
     → ((k : ℕ) (e : Declaration) → k < i → slice_get ds k ≡ Some e → IsShared ds e → ⊥) → IsFirstShared ds d.name.now

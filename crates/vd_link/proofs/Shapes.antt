@@ -95,9 +95,9 @@ first_other texts names i n os at are once bad = record {
 
 pub none_other : (texts : List Entry) (names : List Bytes) (os : List Outline) → AreUnits texts names os → ((k : ℕ) (m : Bytes) → slice_get names k ≡ Some m → is_repeated names m ≡ false) → (name : Bytes) → IsFirstOther texts names name → ⊥
 none_other texts names os are once name f = elim f.bad [
-    inl missing ↦ (let u = unit_at texts names os are f.place name f.at in missing u.0 u.1)
+  | inl missing ↦ (let u = unit_at texts names os are f.place name f.at in missing u.0 u.1)
   | inr again ↦ not_two (is_repeated names name) again (once f.place name f.at)
-  ]
+]
 
 -- ---- each stands once
 
@@ -110,6 +110,7 @@ units_once texts front [] met [] no_names seen once = none_listed
 units_once texts front (n ∷ names) met (o ∷ os) (one_more i r) seen once = taken (new (has_name met n) refl) i (units_once texts (front ++ n ∷ []) names (n ∷ met) os r seen_more once_more) where
   own : 1 ≤ often (n ∷ names) n
   own = stands_some (n ∷ names) n (member_at (n ∷ names) 0 n refl)
+
   new : (b : Bool) → has_name met n ≡ b → has_name met n ≡ false
   new false e = e
   new true e =
@@ -117,13 +118,16 @@ units_once texts front (n ∷ names) met (o ∷ os) (one_more i r) seen once = t
       let s = often_append front (n ∷ names) n in
       let again = repeated_of (front ++ n ∷ names) n (omega (arith, a, own, s)) in
       absurd (not_two (is_repeated (front ++ n ∷ names) n) again (once (length front + 0) n (at_back front (n ∷ names) 0)))
+
   seen_more : (m : Bytes) → has_name (n ∷ met) m ≡ true → 1 ≤ often (front ++ n ∷ []) m
   seen_more m h = go (bytes_eq n m) refl h where
     s : often (front ++ n ∷ []) m ≡ often front m + often (n ∷ []) m
     s = often_append front (n ∷ []) m
+
     go : (b : Bool) → bytes_eq n m ≡ b → b || list_any (λ x. bytes_eq x m) met ≡ true → 1 ≤ often (front ++ n ∷ []) m
     go true e g = (let a = stands_some (n ∷ []) m (ap (λ b. b || false) e) in omega (arith, a, s))
     go false e g = (let a = seen m g in omega (arith, a, s))
+
   once_more : (k : ℕ) (m : Bytes) → slice_get ((front ++ n ∷ []) ++ names) k ≡ Some m → is_repeated ((front ++ n ∷ []) ++ names) m ≡ false
   once_more k m e =
       let same : (front ++ n ∷ []) ++ names ≡ front ++ n ∷ names = append_assoc front (n ∷ []) names in

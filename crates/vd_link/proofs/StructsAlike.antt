@@ -168,6 +168,7 @@ summed [] s fields made is = absurd (none-some fields is)
 summed (d ∷ older) s fields made is = by (bytes_eq d.0 s) refl (λ e. summed older s fields made.1 e) where
   ok : IsAllowed older d.0 d.1
   ok = allowed older d.0 d.1 made.0
+
   by : (b : Bool) → bytes_eq d.0 s ≡ b → (fields_of older s ≡ Some fields → IsSummed older s fields) → IsSummed (d ∷ older) s fields
   by true e before =
       let same : d.1 ≡ fields = same_Some d.1 fields (ap (λ b. cond b (Some d.1) (fields_of older s)) (sym e) ∙ is) in
@@ -195,8 +196,10 @@ extends (d ∷ older) b made_a made_b w = record {
 } where
   ok : IsAllowed older d.0 d.1
   ok = allowed older d.0 d.1 made_a.0
+
   before : Extends older b
   before = extends older b made_a.1 made_b (within_older d older b made_a w)
+
   by : (n : List ℕ) (t : Bool) → bytes_eq d.0 n ≡ t → has_struct (d ∷ older) n ≡ true → struct_cells b n ≡ struct_cells (d ∷ older) n
   by n true e h =
       let at : d.0 ≡ n = (bytes_eq-Decides d.0 n).0 e in
@@ -218,19 +221,25 @@ module _ (parts : List Part) (one : IsUnambiguous parts 0) (b : Table) (h : HasS
   within (d ∷ older) made filled means s fields e = by (bytes_eq d.0 s) refl where
     ok : IsAllowed older d.0 d.1
     ok = allowed older d.0 d.1 made.0
+
     before : Within older b
     before = within older made.1 filled.1 (λ n fs f. means n fs (grows_fields older d ok.new n (some_has older n fs f) ∙ f))
+
     ext : Extends older b
     ext = extends older b made.1 h.made before
+
     here : fields_of (d ∷ older) d.0 ≡ Some d.1
     here = ap (λ t. cond t (Some d.1) (fields_of older d.0)) (itself d.0)
+
     stay : (first_missing b d.1 ≡ None) × (cells_together (struct_cells b) d.1 ≡ cells_together (struct_cells older) d.1)
     stay = fields_stay older b ext d.1 ok.known
+
     found : (o : Option (List Field)) → fields_of b d.0 ≡ o → fields_of b d.0 ≡ Some d.1
     found (Some fs) f = f ∙ ap (λ x. Some x) (struct_same d.0 fs d.1 (one space.Struct d.0 (content.Struct d.0 fs) (content.Struct d.0 d.1) (h.declared d.0 fs f) (means d.0 d.1 here)))
     found None f =
         absurd (h.most d.0 d.1 (means d.0 d.1 here) filled.0 f
         (not_refused b d.0 d.1 (record { new = none_has_not b d.0 f; once = ok.once; known = stay.0; few = subst (λ n. n ≤ most_cells) (sym stay.1) ok.few })))
+
     by : (t : Bool) → bytes_eq d.0 s ≡ t → fields_of b s ≡ Some fields
     by true f =
         let at : d.0 ≡ s = (bytes_eq-Decides d.0 s).0 f in
@@ -272,6 +281,7 @@ slot_here [] n fields f made e = absurd (none-some fields e)
 slot_here (d ∷ older) n fields f made e = by (bytes_eq d.0 n) refl where
   ok : IsAllowed older d.0 d.1
   ok = allowed older d.0 d.1 made.0
+
   by : (t : Bool) → bytes_eq d.0 n ≡ t → slot_of (d ∷ older) n f ≡ slot_in (struct_cells (d ∷ older)) fields f
   by true g =
       let same : d.1 ≡ fields = same_Some d.1 fields (sym (ap (λ t. cond t (Some d.1) (fields_of older n)) g) ∙ e) in

@@ -65,12 +65,12 @@ module _ (texts : List Entry) (units : List Outline) (ds : List Declaration) (ar
       let x = declared_by n d e in
       let y = named d.space d.name.now s.place s.other s.same_space s.same_name s.at in
       elim (cases_lt d.unit s.other.unit) [
-          inl lt ↦ two d.space d.name.now d.unit d.section s.other.unit s.other.section lt x y
+        | inl lt ↦ two d.space d.name.now d.unit d.section s.other.unit s.other.section lt x y
         | inr k ↦ elim (cases_lt s.other.unit d.unit) [
-              inl lt ↦ two d.space d.name.now s.other.unit s.other.section d.unit d.section lt y x
-            | inr m ↦ absurd (s.apart (omega (arith, k, m)))
-            ]
+          | inl lt ↦ two d.space d.name.now s.other.unit s.other.section d.unit d.section lt y x
+          | inr m ↦ absurd (s.apart (omega (arith, k, m)))
         ]
+      ]
 
   no_text_below : (n : ℕ) → n < 0 → ⊥
   no_text_below n lt = omega (arith, lt)
@@ -87,9 +87,9 @@ module _ (texts : List Entry) (units : List Outline) (ds : List Declaration) (ar
   shared s name d p q t =
       let lt = apart_texts s name t in
       elim (cases_eq d.unit t.first_text) [
-          inl e ↦ shared_by s name t.second_text t.second_section d p q (λ f. let a : d.unit ≡ t.first_text = e in let b : d.unit ≡ t.second_text = f in omega (arith, lt, a, b)) t.second
+        | inl e ↦ shared_by s name t.second_text t.second_section d p q (λ f. let a : d.unit ≡ t.first_text = e in let b : d.unit ≡ t.second_text = f in omega (arith, lt, a, b)) t.second
         | inr away ↦ shared_by s name t.first_text t.first_section d p q away t.first
-        ]
+      ]
 
   pub first_twice : (name : Bytes) → IsFirstShared ds name → IsFirstTwice texts [] units name
   first_twice name f = record {
@@ -99,18 +99,18 @@ module _ (texts : List Entry) (units : List Outline) (ds : List Declaration) (ar
     declared = named f.one.space name f.place f.one refl f.named f.at;
     twice = subst (λ x. IsTwice texts [] units f.one.space x) f.named (twice f.place f.one f.at f.shared);
     before = λ k i s other lt d t. (
-      let h = has s other k i d in
-      let before : IsBefore h.one.unit h.one.section f.one.unit f.one.section = subst (λ x. IsBefore x h.one.section f.one.unit f.one.section) (sym h.of_unit) (subst (λ x. IsBefore k x f.one.unit f.one.section) (sym h.of_section) lt) in
-      let sh = shared s other h.one h.of_space h.of_name t in
-      elim (cases_lt h.place f.place) [
-          inl below ↦ f.before h.place h.one below h.at sh
-        | inr m ↦ elim (cases_lt f.place h.place) [
-              inl above ↦ not_before f.one.unit f.one.section h.one.unit h.one.section (units_order 0 units ds are f.place h.place f.one h.one above f.at h.at) before
+        let h = has s other k i d in
+        let before : IsBefore h.one.unit h.one.section f.one.unit f.one.section = subst (λ x. IsBefore x h.one.section f.one.unit f.one.section) (sym h.of_unit) (subst (λ x. IsBefore k x f.one.unit f.one.section) (sym h.of_section) lt) in
+        let sh = shared s other h.one h.of_space h.of_name t in
+        elim (cases_lt h.place f.place) [
+          | inl below ↦ f.before h.place h.one below h.at sh
+          | inr m ↦ elim (cases_lt f.place h.place) [
+            | inl above ↦ not_before f.one.unit f.one.section h.one.unit h.one.section (units_order 0 units ds are f.place h.place f.one h.one above f.at h.at) before
             | inr n ↦
-              let e : h.place ≡ f.place = omega (arith, m, n) in
-              let same : h.one ≡ f.one = some_same h.one f.one (sym (subst (λ x. slice_get ds x ≡ Some h.one) e h.at) ∙ f.at) in
-              not_itself f.one.unit f.one.section (subst (λ x. IsBefore x.unit x.section f.one.unit f.one.section) same before)
-            ]
+                let e : h.place ≡ f.place = omega (arith, m, n) in
+                let same : h.one ≡ f.one = some_same h.one f.one (sym (subst (λ x. slice_get ds x ≡ Some h.one) e h.at) ∙ f.at) in
+                not_itself f.one.unit f.one.section (subst (λ x. IsBefore x.unit x.section f.one.unit f.one.section) same before)
+          ]
         ]);
   }
 

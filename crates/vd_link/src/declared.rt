@@ -109,7 +109,10 @@ fn first_shared<'u>(
 }
 
 /// The first name, by the place of its first declaration, that two units declare in one name space.
-pub(crate) fn declared_twice(alloc: Global, units: &List<Outline>) -> Result<Option<Name>, AllocError>
+pub(crate) fn declared_twice(
+    alloc: Global,
+    units: &List<Outline>,
+) -> Result<Option<Name>, AllocError>
     ensures { IfOk result (λ found. (texts : Items Entry) → All (λ o. is_plain o ≡ true) units.now
         → MatchOption found ((name : Items ℕ) → declaration.IsFirstTwice texts [] units.now name → ⊥) (λ name. declaration.IsFirstTwice texts [] units.now name)) }
 {

@@ -133,7 +133,7 @@ fn units_named(
 ) -> Result<Linked<List<Outline>>, AllocError>
     ensures { IfOk result (λ linked. (entries : Items Entry) → IsIndexOf entries index.now
         → LinkedTo linked (λ units. Units entries [] names.now units × ((name : Bytes) → IsFirstOther entries names.now name → ⊥))
-            (λ text. (name : Bytes) × IsFirstOther entries names.now name × (text ≡ printed 2 (name ∷ [])))) }
+        (λ text. (name : Bytes) × IsFirstOther entries names.now name × (text ≡ printed 2 (name ∷ [])))) }
 {
     let counts = counts_of(alloc, names.as_slice())?;
     let mut units = List::new(alloc);
@@ -154,7 +154,7 @@ pub(crate) fn units_of(
 ) -> Result<Linked<List<Outline>>, AllocError>
     ensures { IfOk result (λ linked. (entries : Items Entry) → IsIndexOf entries index.now
         → LinkedTo linked (λ units. (names : Items Bytes) × IsLink entries link.now names × Units entries [] names units × ((name : Bytes) → IsFirstOther entries names name → ⊥))
-            (PrintsFailure entries link.now)) }
+        (PrintsFailure entries link.now)) }
 {
     match listed(alloc, index, link)? {
         Ok(names) => units_named(alloc, index, &names),

@@ -65,7 +65,10 @@ fn counts_of(alloc: Global, bytes: &[u8]) -> Result<Option<(usize, usize, u32)>,
 fn failing_conditions(rt: HostRuntime) -> Result<(), Fail> {
     let cases: [(&[u8], &[u8]); 16] = [
         // no link
-        (b"unit u\nfn main\nint main ( void ) { return 0 ; }\nend\n\0", b"1 0"),
+        (
+            b"unit u\nfn main\nint main ( void ) { return 0 ; }\nend\n\0",
+            b"1 0",
+        ),
         // a unit of that name
         (b"unit l\n\0", b"1 0"),
         // no outline
@@ -85,17 +88,35 @@ fn failing_conditions(rt: HostRuntime) -> Result<(), Fail> {
         // the second name is no unit, the third stands twice
         (b"link l\nunits\nu , v , u\nend\n\0unit u\n\0", b"2 u"),
         // a global in two units
-        (b"link l\nunits\nu , v\nend\n\0unit u\nglobal g\nint g ;\nend\n\0unit v\nglobal g\nint g ;\nend\n\0", b"6 g"),
+        (
+            b"link l\nunits\nu , v\nend\n\0unit u\nglobal g\nint g ;\nend\n\0unit v\nglobal g\nint g ;\nend\n\0",
+            b"6 g",
+        ),
         // the first by the place of its first declaration
-        (b"link l\nunits\nu , v\nend\n\0unit u\nstruct s\nstruct s { int a ; } ;\nend\nglobal g\nint g ;\nend\n\0unit v\nglobal g\nint g ;\nend\nstruct s\nstruct s { int a ; } ;\nend\n\0", b"6 s"),
+        (
+            b"link l\nunits\nu , v\nend\n\0unit u\nstruct s\nstruct s { int a ; } ;\nend\nglobal g\nint g ;\nend\n\0unit v\nglobal g\nint g ;\nend\nstruct s\nstruct s { int a ; } ;\nend\n\0",
+            b"6 s",
+        ),
         // a section that is not read declares nothing
-        (b"link l\nunits\nu , v\nend\n\0unit u\nglobal g\nint ;\nend\n\0unit v\nglobal g\nint g ;\nend\n\0", b"7"),
+        (
+            b"link l\nunits\nu , v\nend\n\0unit u\nglobal g\nint ;\nend\n\0unit v\nglobal g\nint g ;\nend\n\0",
+            b"7",
+        ),
         // a specification and a function of two units
-        (b"link l\nunits\nu , v\nend\n\0unit u\nspec f\nvoid f ( void )\npre prop ( ) sep ( )\npost prop ( ) sep ( )\nend\n\0unit v\nfn f\nvoid f ( void ) { return ; }\nend\n\0", b"6 f"),
+        (
+            b"link l\nunits\nu , v\nend\n\0unit u\nspec f\nvoid f ( void )\npre prop ( ) sep ( )\npost prop ( ) sep ( )\nend\n\0unit v\nfn f\nvoid f ( void ) { return ; }\nend\n\0",
+            b"6 f",
+        ),
         // main with a parameter
-        (b"link l\nunits\nu\nend\n\0unit u\nfn main\nint main ( int a ) { return 0 ; }\nend\n\0", b"7"),
+        (
+            b"link l\nunits\nu\nend\n\0unit u\nfn main\nint main ( int a ) { return 0 ; }\nend\n\0",
+            b"7",
+        ),
         // all hold, whatever a head part says
-        (b"link l\nunits\nu\nend\n\0unit u\nfn main\nint main ( void ) { return 0 ; }\nend\nglobal g\nint ;\nend\n\0", b""),
+        (
+            b"link l\nunits\nu\nend\n\0unit u\nfn main\nint main ( void ) { return 0 ; }\nend\nglobal g\nint ;\nend\n\0",
+            b"",
+        ),
     ];
     for (texts, wanted) in cases {
         assert!(rt; is_refused(rt.alloc(), texts, wanted)?);
@@ -129,15 +150,40 @@ fn no_programs(rt: HostRuntime) -> Result<(), Fail> {
 fn programs(rt: HostRuntime) -> Result<(), Fail> {
     let cases: [(&[u8], usize, usize, u32); 5] = [
         // one function
-        (b"link l\nunits\nu\nend\n\0unit u\nspec main\nint main ( void )\npre prop ( ) sep ( )\npost prop ( r = vi(5) ) sep ( )\nend\nfn main\nint main ( void ) { int t ; t = 2 + 3 ; return t ; }\nend\nscript main\nset ; return ( ) ;\nend\n\0", 1, 0, 0),
+        (
+            b"link l\nunits\nu\nend\n\0unit u\nspec main\nint main ( void )\npre prop ( ) sep ( )\npost prop ( r = vi(5) ) sep ( )\nend\nfn main\nint main ( void ) { int t ; t = 2 + 3 ; return t ; }\nend\nscript main\nset ; return ( ) ;\nend\n\0",
+            1,
+            0,
+            0,
+        ),
         // it goes past the numbers of its type
-        (b"link l\nunits\nu\nend\n\0unit u\nspec main\nint main ( void )\npre prop ( ) sep ( )\npost prop ( r = vi(5) ) sep ( )\nend\nfn main\nint main ( void ) { int x ; x = 2147483647 ; x = x + 1 ; return x ; }\nend\n\0", 1, 0, 0),
+        (
+            b"link l\nunits\nu\nend\n\0unit u\nspec main\nint main ( void )\npre prop ( ) sep ( )\npost prop ( r = vi(5) ) sep ( )\nend\nfn main\nint main ( void ) { int x ; x = 2147483647 ; x = x + 1 ; return x ; }\nend\n\0",
+            1,
+            0,
+            0,
+        ),
         // a race
-        (b"link l\nunits\nrace\nend\n\0unit race\nglobal x\nint x = 0 ;\nend\nspec w\nvoid w ( int * p )\nwith v : val ;\npre prop ( ) local ( p = v ) sep ( data(32, v, [vi(0)]) )\npost prop ( ) sep ( data(32, v, [vi(1)]) )\nend\nfn w\nvoid w ( int * p ) { * p = 1 ; return ; }\nend\nspec main\nint main ( void )\npre prop ( ) sep ( data(64, addr(x), [vi(0)]) )\npost prop ( ) sep ( data(32, addr(x), [vi(2)]) )\nend\nfn main\nint main ( void ) { spawn ( w , & x ) ; x = 2 ; return 0 ; }\nend\n\0", 2, 1, 1),
+        (
+            b"link l\nunits\nrace\nend\n\0unit race\nglobal x\nint x = 0 ;\nend\nspec w\nvoid w ( int * p )\nwith v : val ;\npre prop ( ) local ( p = v ) sep ( data(32, v, [vi(0)]) )\npost prop ( ) sep ( data(32, v, [vi(1)]) )\nend\nfn w\nvoid w ( int * p ) { * p = 1 ; return ; }\nend\nspec main\nint main ( void )\npre prop ( ) sep ( data(64, addr(x), [vi(0)]) )\npost prop ( ) sep ( data(32, addr(x), [vi(2)]) )\nend\nfn main\nint main ( void ) { spawn ( w , & x ) ; x = 2 ; return 0 ; }\nend\n\0",
+            2,
+            1,
+            1,
+        ),
         // a lock that is released twice
-        (b"link l\nunits\ntwice\nend\n\0unit twice\nglobal l\nlock l ;\nend\npred E\n( )\ncase prop ( ) sep ( )\nend\nspec main\nint main ( void )\npre prop ( ) sep ( data(64, addr(l), [vi(0)]) )\npost prop ( ) sep ( lock(64, addr(l), E()) )\nend\nfn main\nint main ( void ) { makelock ( & l ) ; release ( & l ) ; release ( & l ) ; return 0 ; }\nend\n\0", 1, 1, 0),
+        (
+            b"link l\nunits\ntwice\nend\n\0unit twice\nglobal l\nlock l ;\nend\npred E\n( )\ncase prop ( ) sep ( )\nend\nspec main\nint main ( void )\npre prop ( ) sep ( data(64, addr(l), [vi(0)]) )\npost prop ( ) sep ( lock(64, addr(l), E()) )\nend\nfn main\nint main ( void ) { makelock ( & l ) ; release ( & l ) ; release ( & l ) ; return 0 ; }\nend\n\0",
+            1,
+            1,
+            0,
+        ),
         // two units, in the order of the link
-        (b"link l\nunits\nv , u\nend\n\0unit u\nspec main\nint main ( void )\npre prop ( ) sep ( )\npost prop ( ) sep ( )\nend\nfn main\nint main ( void ) { return 0 ; }\nend\n\0unit v\nspec f\nvoid f ( void )\npre prop ( ) sep ( )\npost prop ( ) sep ( )\nend\nfn f\nvoid f ( void ) { return ; }\nend\nglobal g\nint g [ 3 ] ;\nend\n\0", 2, 1, 1),
+        (
+            b"link l\nunits\nv , u\nend\n\0unit u\nspec main\nint main ( void )\npre prop ( ) sep ( )\npost prop ( ) sep ( )\nend\nfn main\nint main ( void ) { return 0 ; }\nend\n\0unit v\nspec f\nvoid f ( void )\npre prop ( ) sep ( )\npost prop ( ) sep ( )\nend\nfn f\nvoid f ( void ) { return ; }\nend\nglobal g\nint g [ 3 ] ;\nend\n\0",
+            2,
+            1,
+            1,
+        ),
     ];
     for (texts, fns, globals, main) in cases {
         let found = counts_of(rt.alloc(), texts)?;
