@@ -54,7 +54,8 @@ fn long(alloc: Global, length: usize) -> Result<Text, AllocError> {
     Ok(Text::from_vec(bytes))
 }
 
-// Runs the words, which are set apart by single spaces, over u.txt, which holds the unit, l.txt, full.txt, which has as
+// Runs the words, which are set apart by single spaces, over u.txt, which holds the unit, l.txt, an interface i.txt, the
+// schedules s.txt, bad.txt, whose second line is malformed, and many.txt, which has a turn too many, full.txt, which has as
 // many bytes as a file may have, and long.txt, which has one more.
 fn run(alloc: Global, words: &str, unit: &str, failing: Failing) -> Result<Ran, AllocError> {
     let mut all = Vec::new(alloc);
@@ -64,6 +65,10 @@ fn run(alloc: Global, words: &str, unit: &str, failing: Failing) -> Result<Ran, 
     let mut files = List::new(alloc);
     files.push((text(alloc, "u.txt")?, text(alloc, unit)?))?;
     files.push((text(alloc, "l.txt")?, text(alloc, LINK)?))?;
+    files.push((text(alloc, "s.txt")?, text(alloc, "0 1 9\n")?))?;
+    files.push((text(alloc, "bad.txt")?, text(alloc, "0 1 9\n0 2 1\n")?))?;
+    files.push((text(alloc, "many.txt")?, text(alloc, "0 1 1000001\n")?))?;
+    files.push((text(alloc, "i.txt")?, text(alloc, "interface i\n")?))?;
     files.push((text(alloc, "full.txt")?, long(alloc, 1048576)?))?;
     files.push((text(alloc, "long.txt")?, long(alloc, 1048577)?))?;
     let mut shelf = MemShelf::new(files, one(alloc, failing.read)?);
@@ -111,7 +116,38 @@ fn faults_of_words_and_files(rt: HostRuntime) -> Result<(), Fail> {
         ("check l u.txt", NONE, 8, unbuilt),
         ("check l u.txt l.txt l.txt", NONE, 8, unbuilt),
         ("session", NONE, 8, unbuilt),
-        ("play l s.txt u.txt", NONE, 8, unbuilt),
+        ("play l s.txt", NONE, 2, usage),
+        ("play l  u.txt", NONE, 2, usage),
+        ("play l s.txt u.txt ", NONE, 2, usage),
+        ("play l m.txt u.txt", NONE, 3, "desk: cannot read m.txt\n"),
+        (
+            "play l s.txt u.txt m.txt",
+            NONE,
+            3,
+            "desk: cannot read m.txt\n",
+        ),
+        ("play l bad.txt m.txt", NONE, 3, "desk: cannot read m.txt\n"),
+        ("play l long.txt u.txt", NONE, 6, limit),
+        ("play l bad.txt long.txt", NONE, 6, limit),
+        (
+            "play l many.txt m.txt",
+            NONE,
+            6,
+            "desk: limit many.txt 1000000\n",
+        ),
+        (
+            "play l bad.txt full.txt",
+            NONE,
+            5,
+            "desk: malformed bad.txt 2\n",
+        ),
+        (
+            "play l s.txt l.txt full.txt",
+            NONE,
+            5,
+            "desk: malformed full.txt 1\n",
+        ),
+        ("play l s.txt i.txt", NONE, 8, unbuilt),
         ("audit j", NONE, 8, unbuilt),
         ("gen 2 7", NONE, 8, unbuilt),
     ];
