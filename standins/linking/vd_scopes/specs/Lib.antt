@@ -1,0 +1,4 @@
+pub mod Head
+pub mod Failing
+pub mod Scope
+pub mod Answers

@@ -1,0 +1,11 @@
+pub mod Kinds
+pub mod Lexeme
+pub mod Syntax
+pub mod Grammar
+pub mod Words
+pub mod HeaderLine
+pub mod Nesting
+pub mod Fits
+pub mod Section
+pub mod Fronts
+pub mod Read

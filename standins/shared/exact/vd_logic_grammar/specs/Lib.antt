@@ -1,0 +1,17 @@
+pub mod Begins
+pub mod Choice
+pub mod Content
+pub mod Fronts
+pub mod Grammar
+pub mod Kinds
+pub mod Laws
+pub mod Lexeme
+pub mod Making
+pub mod Nesting
+pub mod Numbers
+pub mod Read
+pub mod RuleLists
+pub mod Syntax
+pub mod Tokens
+pub mod Variables
+pub mod Words

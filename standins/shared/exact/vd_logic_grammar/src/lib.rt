@@ -1,0 +1,14 @@
+//! Stand-in.
+#![tactic(auto)]
+
+mod front;
+mod kind;
+mod language;
+mod parts;
+mod token;
+
+pub use front::Front;
+pub use kind::{Class, Kind};
+pub use language::Language;
+pub use parts::AssertionText;
+pub use token::Token;

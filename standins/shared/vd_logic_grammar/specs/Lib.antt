@@ -1,0 +1,11 @@
+pub mod Kinds
+pub mod Lexeme
+pub mod Syntax
+pub mod Variables
+pub mod Numbers
+pub mod Grammar
+pub mod Making
+pub mod Choice
+pub mod Words
+pub mod Nesting
+pub mod Tokens

@@ -1,0 +1,9 @@
+pub mod Arithmetic
+pub mod Evaluation
+pub mod Machine
+pub mod Race
+pub mod Run
+pub mod Safe
+pub mod Start
+pub mod Step
+pub mod Thread
