@@ -6,3 +6,4 @@ pub mod Functions
 pub mod NameLaws
 pub mod Sizes
 pub mod Statements
+pub mod TypedAlike

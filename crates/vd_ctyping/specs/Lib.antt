@@ -17,3 +17,4 @@ pub mod Rules
 pub mod Sort
 pub mod Types
 pub mod Typing
+pub mod Alike

@@ -60,6 +60,6 @@ IsScript = Says steps_in
 
 -- ---- names
 
--- the text is the `units` section of these names
+-- the text is a section that lists these names
 abbrev pub IsNames : List ℕ → List (List ℕ) → Type 0
 IsNames text names = (listed : List Mention) × IsListing text (Ok listed) × (names ≡ map (λ m. m.name) listed)
