@@ -1,0 +1,4 @@
+pub mod SectionCode
+pub mod Coding
+pub mod StructsAlike
+pub mod Scoping

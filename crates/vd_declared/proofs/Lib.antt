@@ -1,0 +1,5 @@
+pub mod Listing
+pub mod Owning
+pub mod Named
+pub mod Twice
+pub mod Mains

@@ -1,0 +1,4 @@
+pub mod Units
+pub mod Plainness
+pub mod Failing
+pub mod Assembling

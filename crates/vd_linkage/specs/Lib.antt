@@ -1,0 +1,9 @@
+pub mod Only
+pub mod Form
+pub mod Texts
+pub mod Reading
+pub mod Closure
+pub mod Shape
+pub mod Declaration
+pub mod Conditions
+pub mod Program
