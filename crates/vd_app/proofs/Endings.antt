@@ -23,6 +23,7 @@ finish_means words shelf out answer ending.CannotWrite answered fin = (fin.0, re
 finish_means words shelf out answer ending.Memory answered fin = inr (record { answer = answer; answered = answered; added = fin })
 finish_means words shelf out answer ending.Usage answered fin = absurd fin
 finish_means words shelf out answer (ending.CannotRead file) answered fin = absurd fin
+finish_means words shelf out answer (ending.Malformed file line) answered fin = absurd fin
 finish_means words shelf out answer (ending.Limit what bound) answered fin = absurd fin
 finish_means words shelf out answer ending.Unbuilt answered fin = absurd fin
 
@@ -36,6 +37,7 @@ memory_means words shelf out ending.Rejected m = inr (record { answer = m.answer
 memory_means words shelf out ending.Usage m = inl m.2
 memory_means words shelf out (ending.CannotRead file) m = inl m.1
 memory_means words shelf out ending.CannotWrite m = inr m.1
+memory_means words shelf out (ending.Malformed file line) m = inl m.1
 memory_means words shelf out (ending.Limit what bound) m = inl m.1
 memory_means words shelf out ending.Memory m = m
 memory_means words shelf out ending.Unbuilt m = inl m.1

@@ -1,12 +1,11 @@
--- A text has one head line, and two texts make one snapshot.
-use Rattle.std.proofs.Common.{◌≡◌, ◌↔◌, ℕ, Bool, true, ◌&&◌, not, ◌==◌, List, [], ◌∷◌, ◌++◌, length, nat_le, slice_index, refl, ap, sym, ◌∙◌, arith}
+-- A text has one head line.
+use Rattle.std.proofs.Common.{◌≡◌, ℕ, Bool, true, ◌&&◌, not, ◌==◌, List, [], ◌∷◌, ◌++◌, length, nat_le, slice_index, refl, ap, sym, ◌∙◌, arith}
 use Rattle.std.specs.Char.{is_ascii_digit}
 use Rattle.std.specs.List.{list_all}
 use Rattle.vd_base.specs.Name.{is_name, is_word_byte}
 use Rattle.vd_outline.specs.declared.outline.TextKind.{TextKind}
 use Rattle.vd_outline.specs.declared.outline.TextKind.TheVariants as kind
 use Rattle.vd_outline.specs.Outline.{HasHead, head_line, kind_word}
-use Rattle.vd_app.specs.Submission.{Entries, put, Submits}
 use Rattle.vd_app.proofs.Words.{both_left, both_right}
 
 -- no byte is a line feed
@@ -87,14 +86,3 @@ one_name text k l m n p q =
     let first : IsOneLine (head_line k m) = head_is_line k m (name_line m (all_word_bytes m p.named)) in
     let second : IsOneLine (head_line l n) = head_is_line l n (name_line n (all_word_bytes n q.named)) in
     same_name k l m n (one_cut (head_line k m) (head_line l n) p.rest q.rest first second (sym p.cut ∙ q.cut))
-
--- two texts make the one snapshot in which the second is put upon the first
-pub two_submit : (first second m n : List ℕ) (k l : TextKind) → HasHead first k m → HasHead second l n
-    → (entries : Entries) → Submits (first ∷ (second ∷ [])) entries ↔ (entries ≡ put (n, 2, second) ((m, 1, first) ∷ []))
-two_submit first second m n k l p q entries = (
-  λ given.
-      let a : given.1 ≡ m = one_name first given.0 k given.1 m given.2 p in
-      let b : given.3.1 ≡ n = one_name second given.3.0 l given.3.1 n given.3.2 q in
-      given.3.3 ∙ ap (λ x. put (x, 2, second) ((given.1, 1, first) ∷ [])) b ∙ ap (λ x. put (n, 2, second) ((x, 1, first) ∷ [])) a,
-  λ e. (k, m, p, (l, n, q, e)),
-)

@@ -1,19 +1,22 @@
 -- How a call of the program ends: what each status means, what was written, and why.
 use Rattle.std.specs.Prelude.{◌≡◌, ◌⊎◌, ℕ, Bool, true, false, List, ◌∷◌, ◌++◌, Option, None, Some, codes, decimal}
 use Rattle.vd_base.specs.Cause.{Rose}
-use Rattle.vd_app.specs.Command.{Bytes, CommandLine, Command, Unbuilt, command_of}
-use Rattle.vd_app.specs.Answer.{Answer, HasForm, Answers, files_of, written_text}
-use Rattle.vd_app.specs.Reading.{AreRead, IsReached, IsUnreadable, IsTooLong, file_limit}
+use Rattle.vd_app.specs.Command.{Bytes, CommandLine, Command, Unbuilt, command_of, files_of}
+use Rattle.vd_app.specs.Answer.{Answer, HasForm, Answers, written_text}
+use Rattle.vd_app.specs.Limits.{IsWithin}
+use Rattle.vd_app.specs.Reading.{AreRead, IsReached, IsUnreadable, PassesLimit}
+use Rattle.vd_app.specs.Wellformed.{IsMalformed, IsWellFormed}
 use Rattle.vd_app.specs.Seen.{ShelfSeen, SinkSeen, IsUnread, IsUntouched, Adds, AddsPrefix}
 use Rattle.vd_app.specs.declared.ending.Ending.{Ending}
 use Rattle.vd_app.specs.declared.ending.Ending.TheVariants as ending
 
--- the words are a command, and this is an answer of what its files were read to hold
+-- the words are a command, and this is an answer of what its files were read to hold, which passes no limit
 pub record IsAnswered (words : CommandLine) (shelf : ShelfSeen) (answer : Answer) : Type 0 where
   pub command : Command
   pub asked : command_of words ≡ Some command
   pub texts : List Bytes
   pub read : AreRead shelf.held (files_of command) texts
+  pub within : IsWithin command texts
   pub answers : Answers command texts answer
 
 -- an answer of this kind was written whole
@@ -33,13 +36,8 @@ pub record WritesPrefix (words : CommandLine) (shelf : ShelfSeen) (out : SinkSee
 pub record ReadFails (words : CommandLine) (shelf : ShelfSeen) (file : Bytes) : Type 0 where
   pub command : Command
   pub asked : command_of words ≡ Some command
-  pub reached : IsReached shelf.held (files_of command) file
+  pub reached : IsReached command shelf.held file
   pub cause : IsUnreadable shelf file
-
--- what passes which limit, with a case for each limit
-pub data PassesLimit (command : Command) (shelf : ShelfSeen) (what : Bytes) (bound : ℕ) : Type 0 where
-  -- the first file in the order of the words that could not be read, by its bytes
-  file_bytes : bound ≡ file_limit → IsReached shelf.held (files_of command) what → IsTooLong shelf what → PassesLimit command shelf what bound
 
 -- a limit that the command passes
 pub record LimitPassed (words : CommandLine) (shelf : ShelfSeen) (what : Bytes) (bound : ℕ) : Type 0 where
@@ -47,10 +45,27 @@ pub record LimitPassed (words : CommandLine) (shelf : ShelfSeen) (what : Bytes) 
   pub asked : command_of words ≡ Some command
   pub passes : PassesLimit command shelf what bound
 
+-- all files were read and pass no limit, and this is the first that is outside its grammar, with its first malformed line
+pub record HasMalformed (words : CommandLine) (shelf : ShelfSeen) (file : Bytes) (line : ℕ) : Type 0 where
+  pub command : Command
+  pub asked : command_of words ≡ Some command
+  pub texts : List Bytes
+  pub read : AreRead shelf.held (files_of command) texts
+  pub within : IsWithin command texts
+  pub malformed : IsMalformed command texts file line
+
+-- all files were read, pass no limit and are in their grammar, and are outside the form that the command takes today
+pub record AreOutside (command : Command) (shelf : ShelfSeen) : Type 0 where
+  pub texts : List Bytes
+  pub read : AreRead shelf.held (files_of command) texts
+  pub within : IsWithin command texts
+  pub formed : IsWellFormed command texts
+  pub outside : HasForm command texts → ⊥
+
 -- a command that is not built, for which nothing is read, or files outside the form
 abbrev pub IsOutside : Command → ShelfSeen → Type 0
 IsOutside Unbuilt shelf = IsUnread shelf
-IsOutside command shelf = (texts : List Bytes) × AreRead shelf.held (files_of command) texts × (HasForm command texts → ⊥)
+IsOutside command shelf = AreOutside command shelf
 
 -- what the words ask for is not built
 pub record IsNotBuilt (words : CommandLine) (shelf : ShelfSeen) : Type 0 where
@@ -64,6 +79,7 @@ Means ending.Accepted words shelf out = WritesAnswer words shelf out true
 Means ending.Rejected words shelf out = WritesAnswer words shelf out false
 Means ending.Usage words shelf out = (command_of words ≡ None) × IsUnread shelf × IsUntouched out
 Means (ending.CannotRead file) words shelf out = ReadFails words shelf file.now × IsUntouched out
+Means (ending.Malformed file line) words shelf out = HasMalformed words shelf file.now line × IsUntouched out
 Means ending.CannotWrite words shelf out = Rose out.faults out.faults_after × WritesPrefix words shelf out
 Means (ending.Limit what bound) words shelf out = LimitPassed words shelf what.now bound × IsUntouched out
 Means ending.Memory words shelf out = IsUntouched out ⊎ WritesPrefix words shelf out
@@ -76,6 +92,7 @@ status_of ending.Rejected = 1
 status_of ending.Usage = 2
 status_of (ending.CannotRead file) = 3
 status_of ending.CannotWrite = 4
+status_of (ending.Malformed file line) = 5
 status_of (ending.Limit what bound) = 6
 status_of ending.Memory = 7
 status_of ending.Unbuilt = 8
@@ -87,6 +104,7 @@ error_line ending.Rejected = None
 error_line ending.Usage = Some (codes "desk: usage\n")
 error_line (ending.CannotRead file) = Some (codes "desk: cannot read " ++ (file.now ++ codes "\n"))
 error_line ending.CannotWrite = Some (codes "desk: cannot write\n")
+error_line (ending.Malformed file line) = Some (codes "desk: malformed " ++ (file.now ++ (32 ∷ (decimal line ++ codes "\n"))))
 error_line (ending.Limit what bound) = Some (codes "desk: limit " ++ (what.now ++ (32 ∷ (decimal bound ++ codes "\n"))))
 error_line ending.Memory = Some (codes "desk: memory\n")
 error_line ending.Unbuilt = Some (codes "desk: unbuilt\n")

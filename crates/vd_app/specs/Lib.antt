@@ -2,7 +2,11 @@ pub mod Answer
 pub mod Call
 pub mod Command
 pub mod Completeness
+pub mod Gathering
+pub mod Limits
+pub mod Play
 pub mod Reading
 pub mod Seen
 pub mod Steps
 pub mod Submission
+pub mod Wellformed

@@ -3,7 +3,8 @@ use Rattle.std.specs.Prelude.{◌≡◌, ◌⊎◌, ◌≤◌, ℕ, Bool, true, 
 use Rattle.vd_base.specs.Cause.{Rose}
 use Rattle.vd_base.specs.declared.sink.SinkFault.{SinkFault}
 use Rattle.vd_base.specs.declared.sink.SinkFault.TheVariants as sink
-use Rattle.vd_app.specs.Reading.{IsReached, IsUnreadable, IsTooLong}
+use Rattle.vd_app.specs.Command.{Command}
+use Rattle.vd_app.specs.Reading.{IsReached, IsUnreadable, IsTooLong, PassesLimit, file_limit}
 use Rattle.vd_app.specs.Seen.{ShelfSeen, SinkSeen, Adds, AddsPrefix}
 use Rattle.vd_app.specs.declared.ending.Ending.{Ending}
 use Rattle.vd_app.specs.declared.ending.Ending.TheVariants as ending
@@ -13,14 +14,14 @@ use Rattle.vd_app.specs.declared.files.ReadFault.TheVariants as read
 -- why a file was not read
 abbrev pub FileStops : List ℕ → ShelfSeen → ReadFault → Type 0
 FileStops file shelf (read.CannotRead named) = (named.now ≡ file) × IsUnreadable shelf file
-FileStops file shelf (read.TooLong named) = (named.now ≡ file) × IsTooLong shelf file
+FileStops file shelf (read.Limit what bound) = (what.now ≡ file) × (bound ≡ file_limit) × IsTooLong shelf file
 FileStops file shelf read.Memory = Unit {0}
 
--- why the files were not read
-abbrev pub ReadStops : List (List ℕ) → ShelfSeen → ReadFault → Type 0
-ReadStops files shelf (read.CannotRead named) = IsReached shelf.held files named.now × IsUnreadable shelf named.now
-ReadStops files shelf (read.TooLong named) = IsReached shelf.held files named.now × IsTooLong shelf named.now
-ReadStops files shelf read.Memory = Unit {0}
+-- why the files of a command were not read
+abbrev pub ReadStops : Command → ShelfSeen → ReadFault → Type 0
+ReadStops command shelf (read.CannotRead named) = IsReached command shelf.held named.now × IsUnreadable shelf named.now
+ReadStops command shelf (read.Limit what bound) = PassesLimit command shelf what.now bound
+ReadStops command shelf read.Memory = Unit {0}
 
 -- what a write of a text leaves
 abbrev pub Writes : List ℕ → SinkSeen → Result Unit SinkFault → Type 0

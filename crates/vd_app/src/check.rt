@@ -1,35 +1,18 @@
 // The command `check`.
-ghost use Rattle.std.specs.Prelude.{◌≡◌, ◌≤◌, ◌++◌, ◌∷◌, [], map, string_bytes, Some, IfOk, MatchOption, codes};
+ghost use Rattle.std.specs.Prelude.{◌≡◌, ◌≤◌, ◌++◌, map, string_bytes, Some, IfOk, MatchOption, codes};
 ghost use Rattle.vd_app.specs.Command.{Bytes, CommandLine, command_of, Check};
 ghost use Rattle.vd_app.specs.Answer.{AreCheckable, Checks, answer_of, written_text};
 ghost use Rattle.vd_app.specs.Call.{Means};
-ghost use Rattle.vd_app.specs.Seen.{SinkSeen};
-ghost use Rattle.vd_app.specs.Steps.{Writes, Finishes};
+ghost use Rattle.vd_app.specs.Steps.{Finishes};
 
-use crate::ending::Ending;
-use crate::files::{FILE_LIMIT, ReadFault, read_files};
+use crate::ending::{Ending, finish};
+use crate::files::{ending_of, read_files};
 use crate::output::{put_line, put_lines};
 use crate::submission::submitted;
 use std::alloc::{AllocError, Global};
-use vd_base::{List, Name, Shelf, Sink, SinkFault, Text};
+use vd_base::{List, Name, Shelf, Sink, Text};
 use vd_check::try_scratch;
 use vd_store::Outcome;
-
-fn finish<'a>(written: Result<(), SinkFault>, success: bool) -> Ending<'a>
-    ensures { (text : Bytes) (seen : SinkSeen) → Writes text seen written → Finishes success text seen result }
-{
-    match written {
-        Ok(()) => {
-            if success {
-                Ending::Accepted
-            } else {
-                Ending::Rejected
-            }
-        }
-        Err(SinkFault::Failed) => Ending::CannotWrite,
-        Err(SinkFault::Memory) => Ending::Memory,
-    }
-}
 
 fn no_link(alloc: Global, link: &Name) -> Result<Text, AllocError>
     ensures { IfOk result (λ line. line ≡ codes "no link " ++ link.now) }
@@ -63,27 +46,14 @@ fn put_outcome<'a, K: Sink>(
     }
 }
 
-/// Takes both texts of two.
-fn two_of(mut texts: List<Text>) -> Option<(Text, Text)>
-    ensures { MatchOption result ((a b : Bytes) → texts ≡ a ∷ b ∷ [] → ⊥) (λ two. texts ≡ two.0 ∷ two.1 ∷ []) }
-{
-    if texts.len() != 2 {
-        return None;
-    }
-    let second = texts.pop()?;
-    let first = texts.pop()?;
-    Some((first, second))
-}
-
 /// The outcome of the link over the texts. It is None where they are outside the form.
 fn outcome_of(alloc: Global, texts: List<Text>, link: &Name) -> Result<Option<Outcome>, AllocError>
     ensures { IfOk result (λ found. MatchOption found (AreCheckable texts → ⊥) (λ o. Checks link.now texts (answer_of link.now o))) }
 {
-    let (first, second) = match two_of(texts) {
-        Some(two) => two,
-        None => return Ok(None),
-    };
-    let snapshot = match submitted(alloc, first, second)? {
+    if texts.len() != 2 {
+        return Ok(None);
+    }
+    let snapshot = match submitted(alloc, texts)? {
         Some(snapshot) => snapshot,
         None => return Ok(None),
     };
@@ -108,9 +78,7 @@ pub fn check<'a, H: Shelf, K: Sink>(
 {
     let texts = match read_files(alloc, files, shelf) {
         Ok(texts) => texts,
-        Err(ReadFault::CannotRead(file)) => return Ending::CannotRead(file),
-        Err(ReadFault::TooLong(file)) => return Ending::Limit(file, FILE_LIMIT as u64),
-        Err(ReadFault::Memory) => return Ending::Memory,
+        Err(fault) => return ending_of(fault),
     };
     match outcome_of(alloc, texts, link) {
         Ok(Some(outcome)) => put_outcome(alloc, &outcome, link, out),

@@ -2,7 +2,8 @@
 ghost use Rattle.std.specs.Prelude.{◌≡◌, ◌⊎◌, ◌≤◌, ◌++◌, ◌∷◌, Some, IfOk, codes, decimal};
 ghost use Rattle.vd_app.specs.Command.{Bytes};
 ghost use Rattle.vd_app.specs.Call.{TellsEnding, status_of};
-ghost use Rattle.vd_app.specs.Steps.{PutsLine};
+ghost use Rattle.vd_app.specs.Seen.{SinkSeen};
+ghost use Rattle.vd_app.specs.Steps.{PutsLine, Writes, Finishes};
 
 use std::alloc::{AllocError, Global};
 use vd_base::{Sink, SinkFault, Text};
@@ -18,11 +19,30 @@ pub enum Ending<'a> {
     Usage,
     CannotRead(&'a str),
     CannotWrite,
+    /// A file is outside its grammar: the file, and its first malformed line, from 1.
+    Malformed(&'a str, u64),
     /// Something passes a limit: its name, and the limit.
     Limit(&'a str, u64),
     Memory,
     /// The command is not built, or the files are outside the form that is.
     Unbuilt,
+}
+
+/// How a call ends whose answer was written so, by whether all went well.
+pub fn finish<'a>(written: Result<(), SinkFault>, success: bool) -> Ending<'a>
+    ensures { (text : Bytes) (seen : SinkSeen) → Writes text seen written → Finishes success text seen result }
+{
+    match written {
+        Ok(()) => {
+            if success {
+                Ending::Accepted
+            } else {
+                Ending::Rejected
+            }
+        }
+        Err(SinkFault::Failed) => Ending::CannotWrite,
+        Err(SinkFault::Memory) => Ending::Memory,
+    }
 }
 
 /// The status of an ending.
@@ -35,6 +55,7 @@ pub fn status_of(ending: Ending) -> u8
         Ending::Usage => 2,
         Ending::CannotRead(_) => 3,
         Ending::CannotWrite => 4,
+        Ending::Malformed(_, _) => 5,
         Ending::Limit(_, _) => 6,
         Ending::Memory => 7,
         Ending::Unbuilt => 8,
@@ -48,6 +69,13 @@ fn cannot_read_line(alloc: Global, file: &str) -> Result<Text, AllocError>
     line.append(file.as_bytes())?;
     line.append(b"\n")?;
     Ok(line)
+}
+
+fn malformed_line(alloc: Global, file: &str, number: u64) -> Result<Text, AllocError>
+    ensures { IfOk result (λ line. line ≡ codes "desk: malformed " ++ (file.now ++ (32 ∷ (decimal number ++ codes "\n")))) }
+{
+    let line = format!(in alloc; "desk: malformed {file} {number}\n")?;
+    Text::new(alloc, line.as_bytes())
 }
 
 fn limit_line(alloc: Global, what: &str, bound: u64) -> Result<Text, AllocError>
@@ -95,6 +123,7 @@ pub fn tell<'a, E: Sink>(alloc: Global, ending: Ending<'a>, err: &mut E) -> Endi
         Ending::Usage => put_line(b"desk: usage\n", ending, err),
         Ending::CannotRead(file) => put_made(cannot_read_line(alloc, file), ending, err),
         Ending::CannotWrite => put_line(b"desk: cannot write\n", ending, err),
+        Ending::Malformed(file, line) => put_made(malformed_line(alloc, file, line), ending, err),
         Ending::Limit(what, bound) => put_made(limit_line(alloc, what, bound), ending, err),
         Ending::Memory => put_line(b"desk: memory\n", ending, err),
         Ending::Unbuilt => put_line(b"desk: unbuilt\n", ending, err),

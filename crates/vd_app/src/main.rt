@@ -1,11 +1,14 @@
-//! The program `desk`. So far it checks a link over its texts.
+//! The program `desk`. So far it checks a link over its texts, and runs the link's program under a schedule.
 #![tactic(auto)]
 
 mod check;
 mod command;
 mod ending;
 mod files;
+mod inputs;
+mod lines;
 mod output;
+mod play;
 mod submission;
 #[cfg(test)]
 mod tests;

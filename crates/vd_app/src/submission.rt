@@ -1,50 +1,54 @@
-// The snapshot that the texts of a command make.
-ghost use Rattle.std.specs.Prelude.{◌≡◌, ◌↔◌, ◌∷◌, [], IfOk, MatchOption};
-ghost use Rattle.vd_app.specs.Submission.{Entries, put, Submits};
+// The snapshot that texts make.
+ghost use Rattle.std.specs.Prelude.{◌≡◌, ◌↔◌, ◌<◌, ◌^◌, true, false, IfOk, MatchOption, All};
+ghost use Rattle.vd_app.specs.Submission.{Entries, IsFirstHeadlessAt, IsHeaded, IsHeadless, PutsText, Submits};
 
 use std::alloc::{AllocError, Global};
-use std::cmp::Ordering;
-use vd_base::{List, Name, Text};
+use vd_base::{List, Text};
 use vd_outline::head_of;
-use vd_store::Snapshot;
+use vd_store::{Snapshot, Store};
 
-/// Puts a text upon another.
-fn in_order(
-    alloc: Global,
-    first: (Name, u32, Text),
-    second: (Name, u32, Text),
-) -> Result<List<(Name, u32, Text)>, AllocError>
-    ensures { IfOk result (λ texts. texts ≡ put second (first ∷ [])) }
+/// Makes a text the current one of the name of its head line; false where it has none.
+fn put_text(alloc: Global, store: &mut Store, text: Text) -> Result<bool, AllocError>
+    requires { store.old.puts < 2 ^ 31 }
+    ensures put { IfOk result (λ put. put ≡ true → PutsText store.old text store.new) }
+    ensures headless { IfOk result (λ put. put ≡ false → IsHeadless text) }
 {
-    let mut texts = List::new(alloc);
-    match second.0.cmp(&first.0) {
-        Ordering::Less => {
-            texts.push(second)?;
-            texts.push(first)?;
+    match head_of(alloc, &text)? {
+        Some((_, name)) => {
+            store.put(name, text)?;
+            Ok(true)
         }
-        Ordering::Equal => texts.push(second)?,
-        Ordering::Greater => {
-            texts.push(first)?;
-            texts.push(second)?;
-        }
+        None => Ok(false),
     }
-    Ok(texts)
 }
 
-/// The snapshot after two texts were put, the first before the second. It is None where one has no head line.
-pub fn submitted(alloc: Global, first: Text, second: Text) -> Result<Option<Snapshot>, AllocError>
+/// The snapshot after the texts were put in this order. It is None where one has no head line.
+pub fn submitted(alloc: Global, texts: List<Text>) -> Result<Option<Snapshot>, AllocError>
     ensures { IfOk result (λ found. MatchOption found
-        ((entries : Entries) → Submits (first ∷ second ∷ []) entries → ⊥)
-        (λ s. (entries : Entries) → Submits (first ∷ second ∷ []) entries ↔ (entries ≡ s.texts))) }
+        ((entries : Entries) → Submits texts entries → ⊥)
+        (λ s. (entries : Entries) → Submits texts entries ↔ (entries ≡ s.texts))) }
 {
-    let first_name = match head_of(alloc, &first)? {
-        Some((_, name)) => name,
-        None => return Ok(None),
-    };
-    let second_name = match head_of(alloc, &second)? {
-        Some((_, name)) => name,
-        None => return Ok(None),
-    };
-    let texts = in_order(alloc, (first_name, 1, first), (second_name, 2, second))?;
-    Ok(Some(Snapshot { texts }))
+    if texts.len() >= 2147483648 {
+        return Err(AllocError);
+    }
+    let mut store = Store::new(alloc);
+    for text in texts.into_vec() {
+        if !put_text(alloc, &mut store, text)? {
+            return Ok(None);
+        }
+    }
+    let snapshot = store.snapshot()?;
+    Ok(Some(snapshot))
+}
+
+/// The place of the first text without a head line.
+pub fn headless(alloc: Global, texts: &[Text]) -> Result<Option<usize>, AllocError>
+    ensures { IfOk result (λ found. MatchOption found (All IsHeaded texts.now) (IsFirstHeadlessAt texts.now)) }
+{
+    for (at, text) in texts.iter().enumerate() {
+        if head_of(alloc, text)?.is_none() {
+            return Ok(Some(at));
+        }
+    }
+    Ok(None)
 }

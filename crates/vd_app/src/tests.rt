@@ -15,6 +15,14 @@ const WRONG_RESULT: &str =
 const OVERFLOW: &str =
     "unit u\nspec main\nint main ( void )\npre prop ( ) sep ( )\npost prop ( r = vi(5) ) sep ( )\nend\nfn main\nint main ( void ) { int x ; x = 2147483647 ; x = x + 1 ; return x ; }\nend\nscript main\nset ; set ; return ( ) ;\nend\n";
 
+// Its thread and main store to one global with no lock.
+const RACE: &str =
+    "unit u\nglobal x\nint x = 0 ;\nend\nspec w\nvoid w ( int * p )\npre prop ( ) sep ( )\npost prop ( ) sep ( )\nend\nfn w\nvoid w ( int * p ) { * p = 1 ; return ; }\nend\nspec main\nint main ( void )\npre prop ( ) sep ( )\npost prop ( ) sep ( )\nend\nfn main\nint main ( void ) { spawn ( w , & x ) ; x = 2 ; return 0 ; }\nend\n";
+
+// It returns a number below 0.
+const NEGATIVE: &str =
+    "unit u\nfn main\nint main ( void ) { int t ; t = 2 - 5 ; return t ; }\nend\n";
+
 const LINK: &str = "link l\nunits\nu\nend\n";
 
 const ACCEPTED: &str = "header u ok\nbody u main ok\nlink l ok\n";
@@ -54,8 +62,9 @@ fn long(alloc: Global, length: usize) -> Result<Text, AllocError> {
     Ok(Text::from_vec(bytes))
 }
 
-// Runs the words, which are set apart by single spaces, over u.txt, which holds the unit, l.txt, full.txt, which has as
-// many bytes as a file may have, and long.txt, which has one more.
+// Runs the words, which are set apart by single spaces, over u.txt, which holds the unit, l.txt, an interface i.txt, the
+// schedules s.txt, one.txt, which has one turn, bad.txt, whose second line is malformed, and many.txt, which has a turn too
+// many, full.txt, which has as many bytes as a file may have, and long.txt, which has one more.
 fn run(alloc: Global, words: &str, unit: &str, failing: Failing) -> Result<Ran, AllocError> {
     let mut all = Vec::new(alloc);
     for word in words.split(' ') {
@@ -64,6 +73,11 @@ fn run(alloc: Global, words: &str, unit: &str, failing: Failing) -> Result<Ran, 
     let mut files = List::new(alloc);
     files.push((text(alloc, "u.txt")?, text(alloc, unit)?))?;
     files.push((text(alloc, "l.txt")?, text(alloc, LINK)?))?;
+    files.push((text(alloc, "s.txt")?, text(alloc, "0 1 9\n")?))?;
+    files.push((text(alloc, "one.txt")?, text(alloc, "0 1 1\n")?))?;
+    files.push((text(alloc, "bad.txt")?, text(alloc, "0 1 9\n0 2 1\n")?))?;
+    files.push((text(alloc, "many.txt")?, text(alloc, "0 1 1000001\n")?))?;
+    files.push((text(alloc, "i.txt")?, text(alloc, "interface i\n")?))?;
     files.push((text(alloc, "full.txt")?, long(alloc, 1048576)?))?;
     files.push((text(alloc, "long.txt")?, long(alloc, 1048577)?))?;
     let mut shelf = MemShelf::new(files, one(alloc, failing.read)?);
@@ -111,7 +125,38 @@ fn faults_of_words_and_files(rt: HostRuntime) -> Result<(), Fail> {
         ("check l u.txt", NONE, 8, unbuilt),
         ("check l u.txt l.txt l.txt", NONE, 8, unbuilt),
         ("session", NONE, 8, unbuilt),
-        ("play l s.txt u.txt", NONE, 8, unbuilt),
+        ("play l s.txt", NONE, 2, usage),
+        ("play l  u.txt", NONE, 2, usage),
+        ("play l s.txt u.txt ", NONE, 2, usage),
+        ("play l m.txt u.txt", NONE, 3, "desk: cannot read m.txt\n"),
+        (
+            "play l s.txt u.txt m.txt",
+            NONE,
+            3,
+            "desk: cannot read m.txt\n",
+        ),
+        ("play l bad.txt m.txt", NONE, 3, "desk: cannot read m.txt\n"),
+        ("play l long.txt u.txt", NONE, 6, limit),
+        ("play l bad.txt long.txt", NONE, 6, limit),
+        (
+            "play l many.txt m.txt",
+            NONE,
+            6,
+            "desk: limit many.txt 1000000\n",
+        ),
+        (
+            "play l bad.txt full.txt",
+            NONE,
+            5,
+            "desk: malformed bad.txt 2\n",
+        ),
+        (
+            "play l s.txt l.txt full.txt",
+            NONE,
+            5,
+            "desk: malformed full.txt 1\n",
+        ),
+        ("play l s.txt i.txt", NONE, 8, unbuilt),
         ("audit j", NONE, 8, unbuilt),
         ("gen 2 7", NONE, 8, unbuilt),
     ];
@@ -119,6 +164,60 @@ fn faults_of_words_and_files(rt: HostRuntime) -> Result<(), Fail> {
         let ran = run(rt.alloc(), words, UNIT, failing)?;
         assert_eq!(rt; ran.status, status, "at {words}");
         assert_eq!(rt; ran.out.bytes(), b"".as_slice());
+        assert_eq!(rt; ran.err.bytes(), err.as_bytes());
+    }
+    Ok(())
+}
+
+// Runs of two files: the words, the unit, what fails, the status, the output, and the error stream.
+#[test]
+fn runs_of_two_files(rt: HostRuntime) -> Result<(), Fail> {
+    let nine = "play l s.txt u.txt l.txt";
+    let one = "play l one.txt u.txt l.txt";
+    let second = Failing { write: 2, ..NONE };
+    let returned = "turns 2\nend main int 5\nrace none\n";
+    let cases = [
+        (nine, UNIT, NONE, 0, returned, ""),
+        (nine, WRONG_RESULT, NONE, 0, returned, ""),
+        (nine, UNIT, second, 4, "turns 2\n", "desk: cannot write\n"),
+        (
+            nine,
+            NEGATIVE,
+            NONE,
+            0,
+            "turns 2\nend main int -3\nrace none\n",
+            "",
+        ),
+        (
+            nine,
+            OVERFLOW,
+            NONE,
+            1,
+            "turns 2\nend stuck 0 overflow\nrace none\n",
+            "",
+        ),
+        (one, OVERFLOW, NONE, 0, "turns 1\nend open\nrace none\n", ""),
+        (
+            one,
+            RACE,
+            NONE,
+            1,
+            "turns 1\nend open\nrace 1 0 1 0 0\n",
+            "",
+        ),
+        (
+            "play zz s.txt u.txt l.txt",
+            UNIT,
+            NONE,
+            1,
+            "no program\n",
+            "",
+        ),
+    ];
+    for (words, unit, failing, status, out, err) in cases {
+        let ran = run(rt.alloc(), words, unit, failing)?;
+        assert_eq!(rt; ran.status, status, "at {words}");
+        assert_eq!(rt; ran.out.bytes(), out.as_bytes());
         assert_eq!(rt; ran.err.bytes(), err.as_bytes());
     }
     Ok(())

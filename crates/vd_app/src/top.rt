@@ -8,6 +8,7 @@ ghost use Rattle.vd_app.specs.Seen.{CountsGrow};
 use crate::check::check;
 use crate::command::{Words, command_of};
 use crate::ending::{Ending, status_of, tell};
+use crate::play::play;
 use std::alloc::Global;
 use vd_base::{Shelf, Sink};
 
@@ -29,6 +30,9 @@ fn run<'a, H: Shelf, K: Sink>(
         Ok(None) => Ending::Usage,
         Ok(Some(Words::Unbuilt)) => Ending::Unbuilt,
         Ok(Some(Words::Check(link, files))) => check(alloc, &link, files, shelf, out),
+        Ok(Some(Words::Play(link, schedule, files))) => {
+            play(alloc, &link, schedule, files, shelf, out)
+        }
         Err(_) => Ending::Memory,
     }
 }

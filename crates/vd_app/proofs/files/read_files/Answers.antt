@@ -1,13 +1,15 @@
-use Rattle.std.proofs.Common.{◌≡◌, ◌∙◌, ◌++◌, ◌∷◌, [], map, string_bytes, add-one, arith, subst, sym, take}
+use Rattle.std.proofs.Common.{◌≡◌, ◌∙◌, ◌++◌, ◌∷◌, [], map, string_bytes, add-one, arith, subst, sym, suc, take, drop}
 use Rattle.vd_base.specs.Shelf.{Agrees}
-use Rattle.vd_app.proofs.ReadLaws.{files_stop, read_more, on_ok}
+use Rattle.vd_app.specs.Command.{Check}
+use Rattle.vd_app.proofs.ReadLaws.{file_stops, read_more, on_ok}
 use Rattle.vd_app.proofs.Words.{parted, taken}
 use Rattle.vd_app.proofs.files.read_files.Goals as goal
 
 pub returns-in-Err-clause-stops : goal.returns-in-Err-clause-stops
-returns-in-Err-clause-stops g c = files_stop (g.H.Shelf.held c.args.shelf.now) (g.H.Shelf.held c.loop-file.shelf) (map string_bytes c.args.files.now) c.loop-file.texts c.loop-file.file-index (string_bytes c.file-item.result)
+returns-in-Err-clause-stops g c = λ link. file_stops (Check link (map string_bytes c.args.files.now)) (g.H.Shelf.held c.args.shelf.now) (g.H.Shelf.held c.loop-file.shelf)
+    (take c.loop-file.file-index (map string_bytes c.args.files.now)) (drop (suc c.loop-file.file-index) (map string_bytes c.args.files.now)) c.loop-file.texts (string_bytes c.file-item.result)
     (g.H.Shelf.taken c.args.shelf.now) (g.H.Shelf.taken c.loop-file.shelf) (g.H.Shelf.taken c.read_file.new.shelf) (g.H.Shelf.faults c.args.shelf.now) (g.H.Shelf.faults c.loop-file.shelf) (g.H.Shelf.faults c.read_file.new.shelf) c.in-Err.fault
-    (parted string_bytes c.args.files.now c.loop-file.file-index c.file-item.result c.loop-file-test.true c.file-item.is) c.loop-file.invariant.read c.loop-file.invariant.held c.loop-file.invariant.taken c.loop-file.invariant.faults c.in-Err.ensures.stops
+    (parted string_bytes c.args.files.now c.loop-file.file-index c.file-item.result c.loop-file-test.true c.file-item.is) c.loop-file.invariant.read tt c.loop-file.invariant.held c.loop-file.invariant.taken c.loop-file.invariant.faults c.in-Err.ensures.stops
 
 pub loop-file-preserved : goal.loop-file-preserved
 loop-file-preserved g c =
