@@ -1,6 +1,7 @@
 -- Code of sections, put together.
-use Rattle.std.proofs.Common.{◌≡◌, ◌<◌, ◌+◌, ℕ, zero, suc, List, [], ◌∷◌, ◌++◌, length, take, get_or, None, Some, refl, ap, sym, ◌∙◌, subst, arith, append-nil, append_assoc}
+use Rattle.std.proofs.Common.{◌≡◌, ◌<◌, ◌+◌, ℕ, zero, suc, Bool, Result, IfOk, List, [], ◌∷◌, ◌++◌, length, take, get_or, None, Some, refl, ap, sym, ◌∙◌, subst, arith, append-nil, append_assoc}
 use Rattle.std.proofs.lemmas.List.{take_more}
+use Rattle.std.specs.declared.alloc.AllocError.{AllocError}
 use Rattle.vd_clight.specs.declared.program.CScope.{CScope}
 use Rattle.vd_clight.specs.declared.program.GlobalDef.{GlobalDef}
 use Rattle.vd_clight.specs.declared.typed.TypedFn.{TypedFn}
@@ -8,7 +9,7 @@ use Rattle.vd_outline.specs.declared.section.Section.{Section}
 use Rattle.vd_outline.specs.declared.section.SectionKind.{SectionKind}
 use Rattle.vd_outline.specs.declared.section.SectionKind.TheVariants as section
 use Rattle.vd_code.specs.declared.code.Code.{Code}
-use Rattle.vd_code.specs.Code.{IsAdded, IsNoCode, IsOnlyCode}
+use Rattle.vd_code.specs.Code.{Adds, IsAdded, IsNoCode, IsOnlyCode}
 use Rattle.vd_linkage.specs.Only.{IsOnly}
 use Rattle.vd_linkage.specs.Program.{HasCode, IsFunction, IsGlobal, fn_section, global_section, no_sections, other_section}
 
@@ -128,3 +129,7 @@ none_whole scope (r ∷ ss) zero s within at none us hs h =
 none_whole scope (r ∷ ss) (suc i) s within at none us hs h =
     let p = code_split scope (r ∷ []) ss us hs h in
     none_whole scope ss i s (omega (arith, within)) at none p.back_fns p.back_globals p.back
+
+-- under the same scope the same is added
+pub same_scope : (here scope : CScope) (ss : List Section) (old new : Code) (more : Result Bool AllocError) → here ≡ scope → IfOk more (Adds (HasCode here ss) old new) → IfOk more (Adds (HasCode scope ss) old new)
+same_scope here scope ss old new more same h = subst (λ x. IfOk more (Adds (HasCode x ss) old new)) same h

@@ -3,6 +3,7 @@
 ghost use Rattle.std.specs.Prelude.{◌≡◌, ◌≢◌, ◌∷◌, [], IfOk, MatchOption, OnOk};
 ghost use Rattle.vd_clight.specs.declared.program.CScope.{CScope as CScope_of_parts};
 ghost use Rattle.vd_ctyping.specs.declared.fault.TypeFault.TheVariants.{Memory as OutOfMemory};
+ghost use Rattle.vd_ctyping.specs.NameTable.{IsIndex};
 ghost use Rattle.vd_heads.specs.HeadPart as part;
 ghost use Rattle.vd_code.specs.Alike.{IsScopeOf};
 ghost use Rattle.vd_code.specs.Code.{Adds, IsAlone};
@@ -13,7 +14,7 @@ use std::alloc::{AllocError, Global};
 use vd_base::List;
 use vd_clight::{CScope, GlobalDef, TypedFn};
 use vd_cparse::Decl;
-use vd_ctyping::{TypeFault, type_fn, typing_laws};
+use vd_ctyping::{ScopeIndex, TypeFault, type_in, typing_laws};
 use vd_heads::head_part;
 use vd_linkage::{declaration_in, function_in};
 use vd_outline::{Outline, Section, SectionKind};
@@ -51,14 +52,19 @@ fn faulty(fault: TypeFault) -> Result<(), AllocError>
 }
 
 /// The typed function of a section; none where it is not read or not typed.
-fn typed(alloc: Global, scope: &CScope, section: &Section) -> Result<Option<TypedFn>, AllocError>
-    ensures { IfOk result (IsOnly (IsFunction scope.now section.now)) }
+fn typed(
+    alloc: Global,
+    index: &ScopeIndex<'_>,
+    section: &Section,
+) -> Result<Option<TypedFn>, AllocError>
+    requires { IsIndex index.now }
+    ensures { IfOk result (IsOnly (IsFunction index.now.scope.now section.now)) }
 {
     let Some(function) = function_in(alloc, &section.text)? else {
         return Ok(None);
     };
     typing_laws();
-    match type_fn(alloc, scope, &function) {
+    match type_in(alloc, index, &function) {
         Ok(typed) => Ok(Some(typed)),
         Err(fault) => {
             faulty(fault)?;
@@ -92,21 +98,22 @@ fn defined(
 /// Adds what a section defines; false where it should define something and doesn't.
 fn add(
     alloc: Global,
-    scope: &CScope,
+    index: &ScopeIndex<'_>,
     section: &Section,
     code: &mut Code,
 ) -> Result<bool, AllocError>
-    ensures { IfOk result (Adds (HasCode scope.now (section.now ∷ [])) code.old code.new) }
+    requires { IsIndex index.now }
+    ensures { IfOk result (Adds (HasCode index.now.scope.now (section.now ∷ [])) code.old code.new) }
 {
     match section.kind {
-        SectionKind::Fn => match typed(alloc, scope, section)? {
+        SectionKind::Fn => match typed(alloc, index, section)? {
             Some(function) => {
                 code.fns.push(function)?;
                 Ok(true)
             }
             None => Ok(false),
         },
-        SectionKind::Global => match defined(alloc, scope, section)? {
+        SectionKind::Global => match defined(alloc, index.scope, section)? {
             Some(global) => {
                 code.globals.push(global)?;
                 Ok(true)
@@ -129,18 +136,32 @@ fn add(
 /// Adds what the sections of a unit define, in their order; false where one should define something and doesn't.
 fn add_sections(
     alloc: Global,
+    index: &ScopeIndex<'_>,
+    sections: &[Section],
+    code: &mut Code,
+) -> Result<bool, AllocError>
+    requires { IsIndex index.now }
+    ensures { IfOk result (Adds (HasCode index.now.scope.now sections.now) code.old code.new) }
+{
+    for section in sections {
+        if !add(alloc, index, section, code)? {
+            return Ok(false);
+        }
+    }
+    Ok(true)
+}
+
+/// Adds what sections define under a scope, whose names are numbered once for all their functions.
+fn add_scoped(
+    alloc: Global,
     scope: &CScope,
     sections: &[Section],
     code: &mut Code,
 ) -> Result<bool, AllocError>
     ensures { IfOk result (Adds (HasCode scope.now sections.now) code.old code.new) }
 {
-    for section in sections {
-        if !add(alloc, scope, section, code)? {
-            return Ok(false);
-        }
-    }
-    Ok(true)
+    let index = ScopeIndex::new(alloc, scope)?;
+    add_sections(alloc, &index, sections, code)
 }
 
 /// The scope of the functions of a text that reaches no interface; none where its head part fails a condition.
@@ -165,7 +186,7 @@ pub fn add_unit(alloc: Global, unit: &Outline, code: &mut Code) -> Result<bool, 
     ensures { IfOk result (Adds (IsAlone unit.now) code.old code.new) }
 {
     match scope_of(alloc, unit)? {
-        Some(scope) => add_sections(alloc, &scope, unit.sections.as_slice(), code),
+        Some(scope) => add_scoped(alloc, &scope, unit.sections.as_slice(), code),
         None => Ok(false),
     }
 }

@@ -6,7 +6,8 @@ use Rattle.std.specs.BTreeMap.{get_by}
 use Rattle.std.specs.Cmp.Lexicographic.{slice_cmp}
 use Rattle.std.specs.Ordering.{nat_cmp}
 use Rattle.vd_ctyping.specs.declared.names.NameTable.{NameTable}
-use Rattle.vd_ctyping.specs.Environment.{number_of}
+use Rattle.vd_ctyping.specs.declared.index.ScopeIndex.{ScopeIndex}
+use Rattle.vd_ctyping.specs.Environment.{function_names, global_names, number_of}
 
 -- the number of a name, where the table has it
 abbrev pub number : NameTable → List ℕ → Option ℕ
@@ -19,3 +20,7 @@ Numbers table names = (name : List ℕ) → number table name ≡ number_of name
 -- a name has got this number, unless it had one
 abbrev pub AddsNew : NameTable → NameTable → List ℕ → ℕ → Type 0
 AddsNew old new name to = (other : List ℕ) → number new other ≡ option_or (number old other) (cond (bytes_eq name other) (Some to) None)
+
+-- the index has the number of each global and of each function of its scope
+abbrev pub IsIndex : ScopeIndex → Type 0
+IsIndex index = Numbers index.globals (global_names index.scope.now.globals) × Numbers index.functions (function_names index.scope.now.fns)

@@ -77,7 +77,7 @@ fn wanted_at(params: &[Field], k: usize) -> Option<&CType>
 
 fn arguments(
     alloc: Global,
-    scope: &Scope<'_>,
+    scope: &Scope<'_, '_>,
     params: &[Field],
     args: &[Expr],
 ) -> Result<Checked<List<TExpr>>, AllocError>
@@ -145,7 +145,7 @@ fn delivered(
 
 fn destination(
     alloc: Global,
-    scope: &Scope<'_>,
+    scope: &Scope<'_, '_>,
     target: Option<&Expr>,
 ) -> Result<Checked<Option<Target>>, AllocError>
     ensures { IfOk result (λ d. d ≡ destination scope.now (option_copied target.entry)) }
@@ -162,7 +162,7 @@ fn destination(
 /// The temporary that a call's result goes to.
 pub(crate) fn result_of(
     alloc: Global,
-    scope: &Scope<'_>,
+    scope: &Scope<'_, '_>,
     place: u32,
     target: Option<&Expr>,
     typ: Checked<CType>,
@@ -215,7 +215,7 @@ fn params_of(signature: Option<&Signature>) -> &[Field]
 
 pub(crate) fn call_function(
     alloc: Global,
-    scope: &Scope<'_>,
+    scope: &Scope<'_, '_>,
     place: u32,
     target: Option<&Expr>,
     name: &Name,
@@ -241,7 +241,7 @@ pub(crate) fn call_function(
 
 fn argument(
     alloc: Global,
-    scope: &Scope<'_>,
+    scope: &Scope<'_, '_>,
     place: u32,
     t: &CType,
     e: Option<&Expr>,
@@ -259,7 +259,7 @@ fn argument(
 
 pub(crate) fn call_builtin(
     alloc: Global,
-    scope: &Scope<'_>,
+    scope: &Scope<'_, '_>,
     place: u32,
     target: Option<&Expr>,
     b: Builtin,
@@ -293,7 +293,7 @@ fn size_named(e: &Expr) -> Option<&CType>
 
 fn malloc_cells(
     alloc: Global,
-    scope: &Scope<'_>,
+    scope: &Scope<'_, '_>,
     place: u32,
     e: Option<&Expr>,
 ) -> Result<Checked<u32>, AllocError>
@@ -310,7 +310,7 @@ fn malloc_cells(
 
 fn malloc_result(
     alloc: Global,
-    scope: &Scope<'_>,
+    scope: &Scope<'_, '_>,
     place: u32,
     target: Option<&Expr>,
 ) -> Result<Checked<Option<u32>>, AllocError>
@@ -336,7 +336,7 @@ fn malloc_statement(to: Option<u32>, n: u32) -> TStmt
 
 pub(crate) fn call_malloc(
     alloc: Global,
-    scope: &Scope<'_>,
+    scope: &Scope<'_, '_>,
     place: u32,
     target: Option<&Expr>,
     args: &[Expr],

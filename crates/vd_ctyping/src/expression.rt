@@ -18,7 +18,7 @@ use vd_clight::{Expr, ExprNode};
 #[tactic(auto, unfolding(crate::specs::CheckedExpression::judged))]
 pub(crate) fn judge(
     alloc: Global,
-    scope: &Scope<'_>,
+    scope: &Scope<'_, '_>,
     e: &Expr,
 ) -> Result<Checked<Found>, AllocError>
     ensures { IfOk result (λ f. f ≡ judged scope.now e.now) }

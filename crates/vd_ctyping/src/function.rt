@@ -1,21 +1,22 @@
 //! Typed functions.
 
-ghost use Rattle.std.specs.Prelude.{◌≡◌, ◌++◌, ◌∷◌, ◌<◌, ◌+◌, ◌^◌, nat_lt, length, IfOk, OnOk};
-ghost use Rattle.vd_ctyping.specs.Environment.{names_of, global_names, function_names};
+ghost use Rattle.std.specs.Prelude.{◌≡◌, ◌++◌, ◌∷◌, ◌<◌, ◌+◌, ◌^◌, length, IfOk, OnOk};
+ghost use Rattle.vd_ctyping.specs.Environment.{names_of};
 ghost use Rattle.vd_ctyping.specs.Function.{are_scalars, is_result, are_declared, are_distinct, variables};
 ghost use Rattle.vd_ctyping.specs.CheckedFunction.{body_of, finished, typed_function};
-ghost use Rattle.vd_ctyping.specs.NameTable.{Numbers};
+ghost use Rattle.vd_ctyping.specs.NameTable.{IsIndex, Numbers};
 ghost use Rattle.vd_ctyping.specs.Typing.{Answers};
 
 use crate::checked::Checked;
 use crate::fault::TypeFault;
+use crate::index::{ScopeIndex, can_number};
 use crate::names::NameTable;
 use crate::scope::Scope;
 use crate::shape::{is_scalar, is_void};
 use crate::statement::type_block;
 use std::alloc::{AllocError, Global};
 use vd_base::{CType, Field, List, Name};
-use vd_clight::{CScope, FnText, Signature, TStmt, TypedFn};
+use vd_clight::{CScope, FnText, TStmt, TypedFn};
 
 // ---- declarations
 
@@ -97,64 +98,27 @@ fn number_fields<'a>(alloc: Global, fields: &'a [Field]) -> Result<NameTable<'a>
     Ok(table)
 }
 
-fn number_globals<'a>(
-    alloc: Global,
-    globals: &'a [(Name, CType)],
-) -> Result<NameTable<'a>, AllocError>
-    requires { length globals.now < 2 ^ 32 }
-    ensures { IfOk result (λ table. Numbers table (global_names globals.now)) }
-{
-    let mut table = NameTable::new(alloc);
-    for (number, global) in globals.iter().enumerate() {
-        let name = global.0.as_bytes();
-        table.add_new(name, number as u32)?;
-    }
-    Ok(table)
-}
-
-fn number_functions<'a>(
-    alloc: Global,
-    functions: &'a [Signature],
-) -> Result<NameTable<'a>, AllocError>
-    requires { length functions.now < 2 ^ 32 }
-    ensures { IfOk result (λ table. Numbers table (function_names functions.now)) }
-{
-    let mut table = NameTable::new(alloc);
-    for (number, function) in functions.iter().enumerate() {
-        let name = function.name.as_bytes();
-        table.add_new(name, number as u32)?;
-    }
-    Ok(table)
-}
-
 // ---- functions
 
-/// Whether so many items can be numbered.
-fn can_number(count: usize) -> bool
-    ensures { result ≡ nat_lt count (2 ^ 32) }
-{
-    count < 4294967296
-}
-
 /// The body, or the first fault of its statements.
-fn type_body(alloc: Global, scope: &CScope, f: &FnText) -> Result<Checked<List<TStmt>>, AllocError>
-    requires { length f.now.params + length f.now.temps < 2 ^ 32 }
-    ensures { IfOk result (λ b. b ≡ body_of scope.now f.now) }
+fn type_body(
+    alloc: Global,
+    index: &ScopeIndex<'_>,
+    f: &FnText,
+) -> Result<Checked<List<TStmt>>, AllocError>
+    requires few { length f.now.params + length f.now.temps < 2 ^ 32 }
+    requires index { IsIndex index.now }
+    ensures { IfOk result (λ b. b ≡ body_of index.now.scope.now f.now) }
 {
-    if !can_number(scope.globals.len()) || !can_number(scope.fns.len()) {
-        return Err(AllocError);
-    }
     let params = f.params.as_slice();
     let temps = f.temps.as_slice();
     let seen = Scope {
         params,
         temps,
         returned: &f.ret,
-        seen: scope,
+        index,
         param_numbers: number_fields(alloc, params)?,
         temp_numbers: number_fields(alloc, temps)?,
-        global_numbers: number_globals(alloc, scope.globals.as_slice())?,
-        function_numbers: number_functions(alloc, scope.fns.as_slice())?,
     };
     type_block(alloc, &seen, f.body.as_slice())
 }
@@ -191,10 +155,11 @@ fn finished(
 #[tactic(auto, using(crate::proofs::NameLaws::variables_count))]
 fn typed(
     alloc: Global,
-    scope: &CScope,
+    index: &ScopeIndex<'_>,
     f: &FnText,
 ) -> Result<Result<TypedFn, TypeFault>, AllocError>
-    ensures { IfOk result (λ t. t ≡ typed_function scope.now f.now) }
+    requires { IsIndex index.now }
+    ensures { IfOk result (λ t. t ≡ typed_function index.now.scope.now f.now) }
 {
     let names = variables(alloc, f)?;
     if !can_number(names.len()) {
@@ -203,19 +168,30 @@ fn typed(
     if !are_declared(alloc, f, &names)? {
         return Ok(Err(TypeFault::Mismatch(0, CType::Void, CType::Void)));
     }
-    let body = type_body(alloc, scope, f)?;
+    let body = type_body(alloc, index, f)?;
     finished(alloc, f, names, body)
 }
 
 /// The typed function, in normal form: names are numbers, each operation has its kind, fields are offsets in cells, and
 /// conversions have left nothing. Else the first of its faults, the one at the smallest place; at one place a fault of the
-/// types comes before one of the normal form, and of two alike the one that is read first. Time and memory grow with the
-/// function and the scope together. The types are CompCert Clight's, the normal form is Verifiable C's.
+/// types comes before one of the normal form, and of two alike the one that is read first. Time grows with the function alone.
+/// The types are CompCert Clight's, the normal form is Verifiable C's.
+pub fn type_in(alloc: Global, index: &ScopeIndex<'_>, f: &FnText) -> Result<TypedFn, TypeFault>
+    requires { IsIndex index.now }
+    ensures { Answers index.now.scope.now f.now result }
+{
+    match typed(alloc, index, f) {
+        Ok(answer) => answer,
+        Err(_) => Err(TypeFault::Memory),
+    }
+}
+
+/// The typed function under a scope that no other function is typed under: time and memory grow with both.
 pub fn type_fn(alloc: Global, scope: &CScope, f: &FnText) -> Result<TypedFn, TypeFault>
     ensures { Answers scope.now f.now result }
 {
-    match typed(alloc, scope, f) {
-        Ok(answer) => answer,
+    match ScopeIndex::new(alloc, scope) {
+        Ok(index) => type_in(alloc, &index, f),
         Err(_) => Err(TypeFault::Memory),
     }
 }

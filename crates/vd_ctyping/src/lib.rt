@@ -9,6 +9,7 @@ mod expression;
 mod fault;
 mod found;
 mod function;
+mod index;
 mod laws;
 mod names;
 mod operation;
@@ -19,5 +20,6 @@ mod spawn;
 mod statement;
 
 pub use fault::TypeFault;
-pub use function::type_fn;
+pub use function::{type_fn, type_in};
+pub use index::ScopeIndex;
 pub use laws::typing_laws;

@@ -142,7 +142,7 @@ fn global(
 /// A name: a parameter or temporary, else a global.
 pub(crate) fn variable(
     alloc: Global,
-    scope: &Scope<'_>,
+    scope: &Scope<'_, '_>,
     place: u32,
     name: &Name,
 ) -> Result<Checked<Found>, AllocError>

@@ -4,38 +4,37 @@ ghost use Rattle.std.specs.Prelude.{◌≡◌, ◌≤◌, ◌+◌, ◌^◌, ◌<
 ghost use Rattle.vd_ctyping.specs.Environment.{local_in, local_of, global_of, function_of, names_of};
 ghost use Rattle.vd_ctyping.specs.NameTable.{Numbers};
 
+use crate::index::ScopeIndex;
 use crate::names::NameTable;
 use std::marker::Model;
 use vd_base::{CType, Field, Name, Structs};
-use vd_clight::{CScope, Signature};
+use vd_clight::Signature;
 
 /// What a function's statements see. Contracts see the lists; the tables keep the numbers of names.
 #[derive(Drop)]
-pub(crate) struct Scope<'a> {
+pub(crate) struct Scope<'a, 'n> {
     pub(crate) params: &'a [Field],
     pub(crate) temps: &'a [Field],
     pub(crate) returned: &'a CType,
-    pub(crate) seen: &'a CScope,
+    pub(crate) index: &'a ScopeIndex<'n>,
     pub(crate) param_numbers: NameTable<'a>,
     pub(crate) temp_numbers: NameTable<'a>,
-    pub(crate) global_numbers: NameTable<'a>,
-    pub(crate) function_numbers: NameTable<'a>,
 }
 
-impl<'a> Model for Scope<'a> {
+impl<'a, 'n> Model for Scope<'a, 'n> {
     ghost use Rattle.std.specs.Coded.{codes};
     ghost use Rattle.std.specs.Prelude.{◌<◌, ◌+◌, ◌^◌, length};
     ghost use Rattle.vd_base.specs.contracts.ctype.CType as ctype;
-    ghost use Rattle.vd_ctyping.specs.Environment.{Environment, names_of, global_names, function_names};
-    ghost use Rattle.vd_ctyping.specs.NameTable.{Numbers};
+    ghost use Rattle.vd_ctyping.specs.Environment.{Environment, names_of};
+    ghost use Rattle.vd_ctyping.specs.NameTable.{IsIndex, Numbers};
 
     ghost Value = { Environment };
 
     ghost coded = { Prim.hlevel (codes, ctype.the_row.coded) };
 
-    ghost view = { λ s. record { params = s.params.now; temps = s.temps.now; returned = s.returned.now; globals = s.seen.now.globals; functions = s.seen.now.fns; structs = s.seen.now.structs } };
+    ghost view = { λ s. record { params = s.params.now; temps = s.temps.now; returned = s.returned.now; globals = s.index.now.scope.now.globals; functions = s.index.now.scope.now.fns; structs = s.index.now.scope.now.structs } };
 
-    ghost invariant = { λ s. (length s.params.now + length s.temps.now < 2 ^ 32) × (Numbers s.param_numbers (names_of s.params.now) × (Numbers s.temp_numbers (names_of s.temps.now) × (Numbers s.global_numbers (global_names s.seen.now.globals) × Numbers s.function_numbers (function_names s.seen.now.fns)))) };
+    ghost invariant = { λ s. (length s.params.now + length s.temps.now < 2 ^ 32) × (Numbers s.param_numbers (names_of s.params.now) × (Numbers s.temp_numbers (names_of s.temps.now) × IsIndex s.index.now)) };
 }
 
 /// A variable among some that are numbered from a base.
@@ -54,12 +53,12 @@ fn local_in<'a>(
     Some((base + number, &field.typ))
 }
 
-impl<'a> Scope<'a> {
+impl<'a, 'n> Scope<'a, 'n> {
     /// The structs that are there.
     pub(crate) fn structs(&self) -> &Structs
         ensures { result.now ≡ self.now.structs }
     {
-        &self.seen.structs
+        &self.index.scope.structs
     }
 
     /// The type of what the function returns.
@@ -86,8 +85,8 @@ impl<'a> Scope<'a> {
     pub(crate) fn global(&self, name: &Name) -> Option<&CType>
         ensures { option_copied result ≡ global_of self.now name.now }
     {
-        let number = self.global_numbers.number(name.as_bytes())?;
-        let global = self.seen.globals.get(number as usize)?;
+        let number = self.index.globals.number(name.as_bytes())?;
+        let global = self.index.scope.globals.get(number as usize)?;
         Some(&global.1)
     }
 
@@ -95,7 +94,7 @@ impl<'a> Scope<'a> {
     pub(crate) fn function(&self, name: &Name) -> Option<&Signature>
         ensures { option_copied result ≡ function_of self.now name.now }
     {
-        let number = self.function_numbers.number(name.as_bytes())?;
-        self.seen.fns.get(number as usize)
+        let number = self.index.functions.number(name.as_bytes())?;
+        self.index.scope.fns.get(number as usize)
     }
 }

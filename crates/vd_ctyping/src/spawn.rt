@@ -57,7 +57,7 @@ fn starts_by(
 /// The argument that a thread starts with.
 fn spawned(
     alloc: Global,
-    scope: &Scope<'_>,
+    scope: &Scope<'_, '_>,
     at: u32,
     name: &Name,
     e: &Expr,
@@ -78,7 +78,7 @@ fn spawned(
 /// The function that a thread runs, and its argument.
 fn thread(
     alloc: Global,
-    scope: &Scope<'_>,
+    scope: &Scope<'_, '_>,
     place: u32,
     both: Option<(&Expr, &Expr)>,
 ) -> Result<Checked<(Name, TExpr)>, AllocError>
@@ -101,7 +101,7 @@ fn thread(
 
 fn call_spawn(
     alloc: Global,
-    scope: &Scope<'_>,
+    scope: &Scope<'_, '_>,
     place: u32,
     target: Option<&Expr>,
     args: &[Expr],
@@ -123,7 +123,7 @@ fn call_spawn(
 /// A call.
 pub(crate) fn type_call(
     alloc: Global,
-    scope: &Scope<'_>,
+    scope: &Scope<'_, '_>,
     place: u32,
     target: Option<&Expr>,
     name: &Name,

@@ -101,7 +101,7 @@ fn assign(alloc: Global, target: Target, found: Found) -> Result<Checked<TStmt>,
 
 fn type_assign(
     alloc: Global,
-    scope: &Scope<'_>,
+    scope: &Scope<'_, '_>,
     left: &Expr,
     right: &Expr,
 ) -> Result<Checked<TStmt>, AllocError>
@@ -120,7 +120,7 @@ fn type_assign(
 
 // ---- other statements
 
-fn type_test(alloc: Global, scope: &Scope<'_>, e: &Expr) -> Result<Checked<Cond>, AllocError>
+fn type_test(alloc: Global, scope: &Scope<'_, '_>, e: &Expr) -> Result<Checked<Cond>, AllocError>
     ensures { IfOk result (λ c. c ≡ tested scope.now e.now) }
 {
     match condition_of(alloc, judge(alloc, scope, e)?)? {
@@ -131,7 +131,7 @@ fn type_test(alloc: Global, scope: &Scope<'_>, e: &Expr) -> Result<Checked<Cond>
 
 fn type_return(
     alloc: Global,
-    scope: &Scope<'_>,
+    scope: &Scope<'_, '_>,
     place: u32,
     e: Option<&Expr>,
 ) -> Result<Checked<TStmt>, AllocError>
@@ -193,7 +193,11 @@ fn repeats(
 /// A statement, or its first fault.
 #[cycle(statements)]
 #[tactic(auto, unfolding(crate::specs::CheckedStatement::typed_statement))]
-fn type_statement(alloc: Global, scope: &Scope<'_>, s: &Stmt) -> Result<Checked<TStmt>, AllocError>
+fn type_statement(
+    alloc: Global,
+    scope: &Scope<'_, '_>,
+    s: &Stmt,
+) -> Result<Checked<TStmt>, AllocError>
     ensures { IfOk result (λ t. t ≡ typed_statement scope.now s.now) }
 {
     let place = s.place;
@@ -224,7 +228,7 @@ fn type_statement(alloc: Global, scope: &Scope<'_>, s: &Stmt) -> Result<Checked<
 #[cycle(statements)]
 pub(crate) fn type_block(
     alloc: Global,
-    scope: &Scope<'_>,
+    scope: &Scope<'_, '_>,
     body: &[Stmt],
 ) -> Result<Checked<List<TStmt>>, AllocError>
     ensures { IfOk result (λ b. b ≡ block (map (typed_statement scope.now) body.now)) }

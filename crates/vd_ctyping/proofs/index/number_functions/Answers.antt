@@ -1,6 +1,6 @@
 use Rattle.vd_clight.specs.declared.program.Signature.{Signature}
 use Rattle.vd_ctyping.proofs.NameLaws.{numbers_more}
-use Rattle.vd_ctyping.proofs.function.number_functions.Goals as goal
+use Rattle.vd_ctyping.proofs.index.number_functions.Goals as goal
 
 pub loop-number-preserved : goal.loop-number-preserved
 loop-number-preserved c = numbers_more (λ (f : Signature). f.name) c.loop-number.table c.add_new.new.self c.args.functions.now c.loop-number.number c.index-functions-number.result c.as_bytes-name.result.now

@@ -1,7 +1,7 @@
 use Rattle.std.proofs.Common.{ℕ, List}
 use Rattle.vd_base.specs.declared.ctype.CType.{CType}
 use Rattle.vd_ctyping.proofs.NameLaws.{numbers_more}
-use Rattle.vd_ctyping.proofs.function.number_globals.Goals as goal
+use Rattle.vd_ctyping.proofs.index.number_globals.Goals as goal
 
 pub loop-number-preserved : goal.loop-number-preserved
 loop-number-preserved c = numbers_more (λ (g : List ℕ × CType). g.0) c.loop-number.table c.add_new.new.self c.args.globals.now c.loop-number.number c.index-globals-number.result c.as_bytes-name.result.now

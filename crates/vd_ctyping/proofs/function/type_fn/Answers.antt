@@ -1,5 +1,0 @@
-use Rattle.vd_ctyping.proofs.Functions.{answered}
-use Rattle.vd_ctyping.proofs.function.type_fn.Goals as goal
-
-pub returns-in-Ok : goal.returns-in-Ok
-returns-in-Ok c = answered c.args.scope.now c.args.f.now c.in-Ok.answer c.in-Ok.ensures
