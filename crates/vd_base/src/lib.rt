@@ -3,6 +3,7 @@
 
 mod calls;
 mod ctype;
+mod held;
 mod layout;
 mod list;
 mod name;
@@ -14,6 +15,7 @@ mod tests;
 mod text;
 
 pub use ctype::{CType, Field, copy_fields};
+pub use held::{Held, hold};
 pub use layout::{LayoutFault, Slot, Structs, are_fields, layout_laws};
 pub use list::List;
 pub use name::{Name, NameFault, is_name, is_word_byte};
