@@ -13,7 +13,7 @@ use crate::outline::TextKind;
 use crate::section::Section;
 use crate::seen::Seen;
 use std::alloc::{AllocError, Global};
-use vd_base::{List, Text};
+use vd_base::{List, Text, hold};
 
 /// Why sections are not read.
 #[derive(Drop)]
@@ -43,6 +43,7 @@ fn read_section<'a>(
     else {
         return Err(SectionFault::Bad(bytes.len()));
     };
+    let name = hold(name);
     let is_new = seen.add(line).map_err(SectionFault::Memory)?;
     if !is_new {
         return Err(SectionFault::Bad(bytes.len()));
@@ -53,7 +54,7 @@ fn read_section<'a>(
             let text = Text::new(alloc, text).map_err(SectionFault::Memory)?;
             let section = Section {
                 kind: section_kind,
-                name,
+                name: name.out(),
                 text,
             };
             Ok((section, rest))

@@ -7,7 +7,8 @@ use Rattle.vd_outline.proofs.reading.read_section.Goals as goal
 pub returns-in_ok-text-in-Ok-clause-section : goal.returns-in_ok-text-in-Ok-clause-section
 returns-in_ok-text-in-Ok-clause-section c =
     let header : IsHeader c.args.kind c.in-Some.line.now c.in-Some-2.section_kind c.in-Some-2.name = search rules in
-    section_read c.args.kind c.args.bytes.now c.in-Some.line.now c.in-Some.lines.now _ _ c.in-Ok.body _ c.in-Some.ensures.0 header c.in-Ok.ensures (search rules)
+    rw (c.out.ensures, c.hold-name.ensures)
+    (section_read c.args.kind c.args.bytes.now c.in-Some.line.now c.in-Some.lines.now _ _ c.in-Ok.body _ c.in-Some.ensures.0 header c.in-Ok.ensures (search rules))
 
 pub returns-in-Err-clause-bad : goal.returns-in-Err-clause-bad
 returns-in-Err-clause-bad c = λ left is.
