@@ -9,15 +9,35 @@ use vd_base::{CType, Field};
 pub fn same(a: &CType, b: &CType) -> bool
     ensures { IsTrue result ↔ (a.now ≡ b.now) }
 {
-    match (a, b) {
-        (CType::Void, CType::Void) => true,
-        (CType::Int, CType::Int) => true,
-        (CType::Unsigned, CType::Unsigned) => true,
-        (CType::Lock, CType::Lock) => true,
-        (CType::Struct(s), CType::Struct(t)) => s.is_same(t),
-        (CType::Pointer(s), CType::Pointer(t)) => same(s.get(), t.get()),
-        (CType::Array(s, n), CType::Array(t, m)) => *n == *m && same(s.get(), t.get()),
-        _ => false,
+    match a {
+        CType::Void => match b {
+            CType::Void => true,
+            _ => false,
+        },
+        CType::Int => match b {
+            CType::Int => true,
+            _ => false,
+        },
+        CType::Unsigned => match b {
+            CType::Unsigned => true,
+            _ => false,
+        },
+        CType::Lock => match b {
+            CType::Lock => true,
+            _ => false,
+        },
+        CType::Struct(s) => match b {
+            CType::Struct(t) => s.is_same(t),
+            _ => false,
+        },
+        CType::Pointer(s) => match b {
+            CType::Pointer(t) => same(s.get(), t.get()),
+            _ => false,
+        },
+        CType::Array(s, n) => match b {
+            CType::Array(t, m) => *n == *m && same(s.get(), t.get()),
+            _ => false,
+        },
     }
 }
 
