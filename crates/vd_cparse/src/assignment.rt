@@ -13,14 +13,16 @@ use crate::made::source_of;
 use crate::parts::{Named, Source, Tail};
 use crate::token::{Tokens, name_of};
 use std::alloc::Global;
+use vd_base::hold;
 use vd_grammar::Stop;
 
 fn special_source(alloc: Global, tokens: &mut Tokens<'_>) -> Result<Source, Stop>
     ensures reads { Reads (read_rule Rule.special_source tokens.old) result tokens.new }
     ensures no_longer { length tokens.new ≤ length tokens.old }
 {
-    let call = special(alloc, tokens)?;
+    let call = hold(special(alloc, tokens)?);
     tokens.take(Kind::Semicolon)?;
+    let call = call.out();
     Ok(Source::Call(call.name, call.arguments))
 }
 
@@ -62,19 +64,19 @@ fn named_source(alloc: Global, tokens: &mut Tokens<'_>) -> Result<Source, Stop>
     ensures no_longer { length tokens.new ≤ length tokens.old }
 {
     let token = tokens.name()?;
-    let rest = after_target(alloc, tokens)?;
+    let rest = hold(after_target(alloc, tokens)?);
     let name = name_of(alloc, token)?;
-    Ok(source_of(alloc, token.place, name, rest)?)
+    Ok(source_of(alloc, token.place, name, rest.out())?)
 }
 
 fn other_source(alloc: Global, tokens: &mut Tokens<'_>) -> Result<Source, Stop>
     ensures reads { Reads (read_rule Rule.other_source tokens.old) result tokens.new }
     ensures no_longer { length tokens.new ≤ length tokens.old }
 {
-    let first = plain(alloc, tokens)?;
+    let first = hold(plain(alloc, tokens)?);
     let others = operations(alloc, tokens)?;
     tokens.take(Kind::Semicolon)?;
-    Ok(Source::Value(grouped(alloc, first, others)?))
+    Ok(Source::Value(grouped(alloc, first.out(), others)?))
 }
 
 /// What is assigned, up to the semicolon.

@@ -12,7 +12,7 @@ use crate::parts::Invocation;
 use crate::token::{Tokens, name_of};
 use crate::types::ctype;
 use std::alloc::Global;
-use vd_base::List;
+use vd_base::{List, hold};
 use vd_clight::{Expr, ExprNode};
 use vd_grammar::Stop;
 
@@ -69,13 +69,13 @@ fn malloc(alloc: Global, tokens: &mut Tokens<'_>) -> Result<Invocation, Stop>
     tokens.take(Kind::LeftParen)?;
     let word = tokens.take(Kind::SizeOf)?;
     tokens.take(Kind::LeftParen)?;
-    let typ = ctype(alloc, tokens)?;
+    let typ = hold(ctype(alloc, tokens)?);
     tokens.take(Kind::RightParen)?;
     tokens.take(Kind::RightParen)?;
     let mut arguments = List::new(alloc);
     arguments.push(Expr {
         place: word.place,
-        node: ExprNode::SizeOf(typ),
+        node: ExprNode::SizeOf(typ.out()),
     })?;
     Ok(Invocation {
         place: function.place,

@@ -14,7 +14,7 @@ use crate::parts::Decl;
 use crate::token::{Tokens, name_of};
 use crate::types::ctype;
 use std::alloc::{AllocError, Global};
-use vd_base::{Boxed, CType, Field, List};
+use vd_base::{Boxed, CType, Field, List, hold};
 use vd_clight::Init;
 use vd_grammar::Stop;
 
@@ -51,12 +51,12 @@ fn fields(alloc: Global, tokens: &mut Tokens<'_>) -> Result<List<Field>, Stop>
 {
     let mut found = List::new(alloc);
     'found: while !tokens.sees(Class::One(Kind::RightBrace)) {
-        let typ = ctype(alloc, tokens)?;
+        let typ = hold(ctype(alloc, tokens)?);
         let name = tokens.name()?;
         let name = name_of(alloc, name)?;
         let count = array_length(tokens)?;
         tokens.take(Kind::Semicolon)?;
-        let typ = array_of(alloc, count, typ)?;
+        let typ = array_of(alloc, count, typ.out())?;
         found.push(Field { name, typ })?;
     }
     tokens.take(Kind::RightBrace)?;
@@ -213,13 +213,14 @@ pub(crate) fn global_section(alloc: Global, tokens: &mut Tokens<'_>) -> Result<D
     ensures reads { Reads (read Sort.GlobalSection tokens.old) result tokens.new }
     ensures no_longer { length tokens.new ≤ length tokens.old }
 {
-    let typ = ctype(alloc, tokens)?;
+    let typ = hold(ctype(alloc, tokens)?);
     let name = tokens.own_name()?;
     let count = array_length(tokens)?;
     let init = initial(alloc, tokens)?;
     tokens.take(Kind::Semicolon)?;
     tokens.take(Kind::EndLine)?;
-    let typ = array_of(alloc, count, typ)?;
+    let typ = hold(array_of(alloc, count, typ.out())?);
     let name = name_of(alloc, name)?;
+    let typ = typ.out();
     Ok(Decl::Global(Field { name, typ }, init))
 }

@@ -13,7 +13,7 @@ use crate::parts::{Enclosed, Postfix};
 use crate::token::{Tokens, name_of};
 use crate::types::ctype;
 use std::alloc::Global;
-use vd_base::List;
+use vd_base::{List, hold};
 use vd_clight::{Expr, ExprNode};
 use vd_grammar::Stop;
 
@@ -39,11 +39,11 @@ fn measure(alloc: Global, tokens: &mut Tokens<'_>) -> Result<Expr, Stop>
 {
     let word = tokens.expect(Class::Measure)?;
     tokens.take(Kind::LeftParen)?;
-    let typ = ctype(alloc, tokens)?;
+    let typ = hold(ctype(alloc, tokens)?);
     tokens.take(Kind::RightParen)?;
     Ok(Expr {
         place: word.place,
-        node: measured(word.kind, typ),
+        node: measured(word.kind, typ.out()),
     })
 }
 
@@ -117,10 +117,10 @@ fn cast(alloc: Global, tokens: &mut Tokens<'_>) -> Result<Enclosed, Stop>
     ensures reads { Reads (read_rule Rule.cast tokens.old) result tokens.new }
     ensures no_longer { length tokens.new ≤ length tokens.old }
 {
-    let typ = ctype(alloc, tokens)?;
+    let typ = hold(ctype(alloc, tokens)?);
     tokens.take(Kind::RightParen)?;
     let operand = unary(alloc, tokens)?;
-    Ok(Enclosed::Cast(typ, operand))
+    Ok(Enclosed::Cast(typ.out(), operand))
 }
 
 #[cycle(expression)]
@@ -128,10 +128,10 @@ fn brackets(alloc: Global, tokens: &mut Tokens<'_>) -> Result<Enclosed, Stop>
     ensures reads { Reads (read_rule Rule.brackets tokens.old) result tokens.new }
     ensures no_longer { length tokens.new ≤ length tokens.old }
 {
-    let inner = expression(alloc, tokens)?;
+    let inner = hold(expression(alloc, tokens)?);
     tokens.take(Kind::RightParen)?;
     let others = postfixes(alloc, tokens)?;
-    Ok(Enclosed::Brackets(inner, others))
+    Ok(Enclosed::Brackets(inner.out(), others))
 }
 
 /// What stands behind the opening bracket of an operand.
@@ -164,9 +164,9 @@ pub(crate) fn postfixes(alloc: Global, tokens: &mut Tokens<'_>) -> Result<List<P
             found.push(Postfix::Member(sign.kind, name))?;
         } else if tokens.sees(Class::One(Kind::LeftBracket)) {
             tokens.take(Kind::LeftBracket)?;
-            let index = expression(alloc, tokens)?;
+            let index = hold(expression(alloc, tokens)?);
             tokens.take(Kind::RightBracket)?;
-            found.push(Postfix::Index(index))?;
+            found.push(Postfix::Index(index.out()))?;
         } else {
             return Ok(found);
         }
@@ -195,7 +195,7 @@ pub(crate) fn expression(alloc: Global, tokens: &mut Tokens<'_>) -> Result<Expr,
     ensures reads { Reads (read Sort.Expression tokens.old) result tokens.new }
     ensures no_longer { length tokens.new ≤ length tokens.old }
 {
-    let first = unary(alloc, tokens)?;
+    let first = hold(unary(alloc, tokens)?);
     let others = operations(alloc, tokens)?;
-    Ok(grouped(alloc, first, others)?)
+    Ok(grouped(alloc, first.out(), others)?)
 }

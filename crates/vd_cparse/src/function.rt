@@ -11,6 +11,7 @@ use crate::statement::statements;
 use crate::token::{Tokens, name_of};
 use crate::types::ctype;
 use std::alloc::Global;
+use vd_base::hold;
 use vd_clight::FnText;
 use vd_grammar::Stop;
 
@@ -19,16 +20,17 @@ fn function(alloc: Global, tokens: &mut Tokens<'_>) -> Result<FnText, Stop>
     ensures reads { Reads (read Sort.Function tokens.old) result tokens.new }
     ensures no_longer { length tokens.new ≤ length tokens.old }
 {
-    let ret = ctype(alloc, tokens)?;
+    let ret = hold(ctype(alloc, tokens)?);
     let name = tokens.own_name()?;
     tokens.take(Kind::LeftParen)?;
     let params = parameters(alloc, tokens)?;
     tokens.take(Kind::LeftBrace)?;
     let temps = declarations(alloc, tokens)?;
     let body = statements(alloc, tokens, false)?;
+    let name = name_of(alloc, name)?;
     Ok(FnText {
-        ret,
-        name: name_of(alloc, name)?,
+        ret: ret.out(),
+        name,
         params,
         temps,
         body,
@@ -41,7 +43,7 @@ pub(crate) fn fn_section(alloc: Global, tokens: &mut Tokens<'_>) -> Result<FnTex
     ensures reads { Reads (read Sort.FnSection tokens.old) result tokens.new }
     ensures no_longer { length tokens.new ≤ length tokens.old }
 {
-    let function = function(alloc, tokens)?;
+    let function = hold(function(alloc, tokens)?);
     tokens.take(Kind::EndLine)?;
-    Ok(function)
+    Ok(function.out())
 }

@@ -6,7 +6,7 @@ ghost use Rattle.vd_cparse.specs.Levels.{Climbs};
 
 use crate::kind::Kind;
 use std::alloc::{AllocError, Global};
-use vd_base::{Boxed, List};
+use vd_base::{Boxed, List, hold};
 use vd_clight::{BinOp, Expr, ExprNode};
 
 fn binary_of(kind: Kind) -> BinOp
@@ -52,8 +52,9 @@ fn operated(alloc: Global, kind: Kind, left: Expr, right: Expr) -> Result<Expr, 
     ensures { IfOk result (λ e. e ≡ syntax.operated kind left right) }
 {
     let place = left.place;
+    let right = hold(right);
     let left = Boxed::new(alloc, left)?;
-    let right = Boxed::new(alloc, right)?;
+    let right = Boxed::new(alloc, right.out())?;
     Ok(Expr {
         place,
         node: ExprNode::Binary(binary_of(kind), left, right),

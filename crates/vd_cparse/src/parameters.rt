@@ -10,7 +10,7 @@ use crate::kind::{Class, Kind};
 use crate::token::{Tokens, name_of};
 use crate::types::{ctype, filled, void_type};
 use std::alloc::Global;
-use vd_base::{Field, List};
+use vd_base::{Field, List, hold};
 use vd_grammar::Stop;
 
 /// The parameters behind others, up to the closing bracket.
@@ -26,9 +26,10 @@ fn more_parameters(
     let mut found = first;
     'found: while !tokens.sees(Class::One(Kind::RightParen)) {
         tokens.take(Kind::Comma)?;
-        let typ = ctype(alloc, tokens)?;
+        let typ = hold(ctype(alloc, tokens)?);
         let name = tokens.name()?;
         let name = name_of(alloc, name)?;
+        let typ = typ.out();
         found.push(Field { name, typ })?;
     }
     tokens.take(Kind::RightParen)?;
@@ -40,10 +41,11 @@ fn void_parameter(alloc: Global, tokens: &mut Tokens<'_>) -> Result<List<Field>,
     ensures reads { Reads (read_rule Rule.void_parameter tokens.old) result tokens.new }
     ensures no_longer { length tokens.new ≤ length tokens.old }
 {
-    let typ = void_type(alloc, tokens)?;
+    let typ = hold(void_type(alloc, tokens)?);
     let name = tokens.name()?;
     let name = name_of(alloc, name)?;
     let mut found = List::new(alloc);
+    let typ = typ.out();
     found.push(Field { name, typ })?;
     more_parameters(alloc, tokens, found)
 }
@@ -75,10 +77,11 @@ fn filled_first(alloc: Global, tokens: &mut Tokens<'_>) -> Result<List<Field>, S
     ensures reads { Reads (read_rule Rule.filled_first tokens.old) result tokens.new }
     ensures no_longer { length tokens.new ≤ length tokens.old }
 {
-    let typ = filled(alloc, tokens)?;
+    let typ = hold(filled(alloc, tokens)?);
     let name = tokens.name()?;
     let name = name_of(alloc, name)?;
     let mut found = List::new(alloc);
+    let typ = typ.out();
     found.push(Field { name, typ })?;
     more_parameters(alloc, tokens, found)
 }
@@ -104,10 +107,11 @@ pub(crate) fn declarations(alloc: Global, tokens: &mut Tokens<'_>) -> Result<Lis
 {
     let mut found = List::new(alloc);
     'found: while tokens.sees(Class::TypeWord) {
-        let typ = ctype(alloc, tokens)?;
+        let typ = hold(ctype(alloc, tokens)?);
         let name = tokens.name()?;
         let name = name_of(alloc, name)?;
         tokens.take(Kind::Semicolon)?;
+        let typ = typ.out();
         found.push(Field { name, typ })?;
     }
     Ok(found)

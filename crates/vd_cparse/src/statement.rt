@@ -15,7 +15,7 @@ use crate::kind::{Class, Kind};
 use crate::made::{assigned, jump_of, statement_of};
 use crate::token::{Tokens, name_of};
 use std::alloc::Global;
-use vd_base::List;
+use vd_base::{List, hold};
 use vd_clight::{Expr, Stmt, StmtNode};
 use vd_grammar::Stop;
 
@@ -41,9 +41,9 @@ fn returned(alloc: Global, tokens: &mut Tokens<'_>) -> Result<Option<Expr>, Stop
         tokens.take(Kind::Semicolon)?;
         return Ok(None);
     }
-    let value = expression(alloc, tokens)?;
+    let value = hold(expression(alloc, tokens)?);
     tokens.take(Kind::Semicolon)?;
-    Ok(Some(value))
+    Ok(Some(value.out()))
 }
 
 fn return_statement(alloc: Global, tokens: &mut Tokens<'_>, inside: bool) -> Result<Stmt, Stop>
@@ -64,8 +64,9 @@ fn special_statement(alloc: Global, tokens: &mut Tokens<'_>, inside: bool) -> Re
     ensures no_longer { length tokens.new ≤ length tokens.old }
     ensures shorter { OnOk result (length tokens.new < length tokens.old) }
 {
-    let call = special(alloc, tokens)?;
+    let call = hold(special(alloc, tokens)?);
     tokens.take(Kind::Semicolon)?;
+    let call = call.out();
     Ok(Stmt {
         place: call.place,
         node: StmtNode::Call(None, call.name, call.arguments),
@@ -78,9 +79,9 @@ fn named_statement(alloc: Global, tokens: &mut Tokens<'_>, inside: bool) -> Resu
     ensures shorter { OnOk result (length tokens.new < length tokens.old) }
 {
     let token = tokens.name()?;
-    let rest = after_name(alloc, tokens)?;
+    let rest = hold(after_name(alloc, tokens)?);
     let name = name_of(alloc, token)?;
-    Ok(statement_of(alloc, token.place, name, rest)?)
+    Ok(statement_of(alloc, token.place, name, rest.out())?)
 }
 
 /// An assignment whose left side does not begin with a name.
@@ -89,12 +90,12 @@ fn other_statement(alloc: Global, tokens: &mut Tokens<'_>, inside: bool) -> Resu
     ensures no_longer { length tokens.new ≤ length tokens.old }
     ensures shorter { OnOk result (length tokens.new < length tokens.old) }
 {
-    let first = plain(alloc, tokens)?;
+    let first = hold(plain(alloc, tokens)?);
     let others = operations(alloc, tokens)?;
     tokens.take(Kind::Assign)?;
-    let source = right(alloc, tokens)?;
-    let left = grouped(alloc, first, others)?;
-    Ok(assigned(left, source))
+    let source = hold(right(alloc, tokens)?);
+    let left = grouped(alloc, first.out(), others)?;
+    Ok(assigned(left, source.out()))
 }
 
 fn jump(tokens: &mut Tokens<'_>) -> Result<Stmt, Stop>
@@ -150,13 +151,13 @@ fn if_else(alloc: Global, tokens: &mut Tokens<'_>, inside: bool) -> Result<Stmt,
 {
     let word = tokens.take(Kind::If)?;
     tokens.take(Kind::LeftParen)?;
-    let condition = expression(alloc, tokens)?;
+    let condition = hold(expression(alloc, tokens)?);
     tokens.take(Kind::RightParen)?;
     let then = block(alloc, tokens, inside)?;
     let otherwise = otherwise(alloc, tokens, inside)?;
     Ok(Stmt {
         place: word.place,
-        node: StmtNode::If(condition, then, otherwise),
+        node: StmtNode::If(condition.out(), then, otherwise),
     })
 }
 
@@ -182,12 +183,12 @@ fn while_loop(alloc: Global, tokens: &mut Tokens<'_>, inside: bool) -> Result<St
 {
     let word = tokens.take(Kind::While)?;
     tokens.take(Kind::LeftParen)?;
-    let condition = expression(alloc, tokens)?;
+    let condition = hold(expression(alloc, tokens)?);
     tokens.take(Kind::RightParen)?;
     let body = block(alloc, tokens, true)?;
     Ok(Stmt {
         place: word.place,
-        node: StmtNode::While(condition, body),
+        node: StmtNode::While(condition.out(), body),
     })
 }
 
