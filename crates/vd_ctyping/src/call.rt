@@ -6,7 +6,7 @@ ghost use Rattle.vd_ctyping.specs.Call.{one_of, two_of, passed_by, wanted_at, di
 ghost use Rattle.vd_ctyping.specs.CheckedCall.{passed, arguments, destination, result_of, call_function, argument, call_builtin, malloc_result, call_malloc};
 
 use crate::builtin::{Builtin, builtin_of, builtin_statement, parameter_of};
-use crate::checked::{Checked, added, also, fine, pair, unless};
+use crate::checked::{Checked, added, also, fine, pair, unless, untyped};
 use crate::expression::judge;
 use crate::fault::TypeFault;
 use crate::found::{Destination, Found, Operand, Target, left_side, operand_of, pointer_to};
@@ -15,7 +15,7 @@ use crate::place::cells;
 use crate::scope::Scope;
 use crate::shape::converts;
 use std::alloc::{AllocError, Global};
-use vd_base::{CType, Field, List, Name};
+use vd_base::{CType, Field, Held, List, Name, hold};
 use vd_clight::{Expr, ExprNode, Signature, TExpr, TStmt};
 
 pub(crate) fn one<T>(items: &[T]) -> Option<&T>
@@ -46,10 +46,10 @@ pub(crate) fn passed_by(
     ensures { IfOk result (λ v. v ≡ passed_by (option_copied t.entry) o) }
 {
     match t {
-        None => Ok(fine(o.value)),
+        None => Ok(fine(o.value.out())),
         Some(t) => {
             let fault = wants(alloc, t, &o)?;
-            Ok(unless(fault, o.value))
+            Ok(unless(fault, o.value.out()))
         }
     }
 }
@@ -64,7 +64,7 @@ pub(crate) fn passed(
 {
     match operand_of(alloc, part)? {
         Checked::Untyped(fault) => Ok(Checked::Untyped(fault)),
-        Checked::Typed(o, fault) => Ok(also(fault, passed_by(alloc, t, o)?)),
+        Checked::Typed(o, fault) => Ok(also(fault, passed_by(alloc, t, o.out())?)),
     }
 }
 
@@ -106,15 +106,16 @@ pub(crate) fn wants_type(
     place: u32,
     wanted: &CType,
     typ: &CType,
-) -> Result<Option<TypeFault>, AllocError>
+) -> Result<Option<Held<TypeFault>>, AllocError>
     ensures { IfOk result (λ f. f ≡ wants_type place wanted.now typ.now) }
 {
     if converts(false, typ, wanted) {
         return Ok(None);
     }
-    let wanted = wanted.copy(alloc)?;
+    let wanted = hold(wanted.copy(alloc)?);
     let found = typ.copy(alloc)?;
-    Ok(Some(TypeFault::Mismatch(place, wanted, found)))
+    let fault = TypeFault::Mismatch(place, wanted.out(), found);
+    Ok(Some(hold(fault)))
 }
 
 fn delivered_to(at: u32, to: Destination) -> Checked<Option<u32>>
@@ -122,7 +123,7 @@ fn delivered_to(at: u32, to: Destination) -> Checked<Option<u32>>
 {
     match to {
         Destination::Temporary(x) => fine(Some(x)),
-        Destination::Memory(_) => Checked::Typed(None, Some(TypeFault::NotNormal(at))),
+        Destination::Memory(_) => Checked::Typed(hold(None), Some(hold(TypeFault::NotNormal(at)))),
     }
 }
 
@@ -136,7 +137,7 @@ fn delivered(
 {
     match target {
         None => Ok(fine(None)),
-        Some(target) => match wants_type(alloc, place, &target.typ, typ)? {
+        Some(target) => match wants_type(alloc, place, target.typ.get(), typ)? {
             Some(fault) => Ok(Checked::Untyped(fault)),
             None => Ok(delivered_to(target.place, target.to)),
         },
@@ -154,7 +155,7 @@ fn destination(
         None => Ok(fine(None)),
         Some(e) => match left_side(judge(alloc, scope, e)?) {
             Checked::Untyped(fault) => Ok(Checked::Untyped(fault)),
-            Checked::Typed(target, fault) => Ok(also(fault, fine(Some(target)))),
+            Checked::Typed(target, fault) => Ok(also(fault, fine(Some(target.out())))),
         },
     }
 }
@@ -172,8 +173,9 @@ pub(crate) fn result_of(
     match pair(destination(alloc, scope, target)?, typ) {
         Checked::Untyped(fault) => Ok(Checked::Untyped(fault)),
         Checked::Typed(both, fault) => {
-            let (target, typ) = both;
-            Ok(also(fault, delivered(alloc, place, &typ, target)?))
+            let (target, typ) = both.out();
+            let typ = hold(typ);
+            Ok(also(fault, delivered(alloc, place, typ.get(), target)?))
         }
     }
 }
@@ -193,13 +195,13 @@ fn known(
     match signature {
         None => {
             let name = name.copy(alloc)?;
-            Ok(Checked::Untyped(TypeFault::Unknown(place, name)))
+            Ok(untyped(TypeFault::Unknown(place, name)))
         }
         Some(signature) => {
             if signature.params.len() == count {
                 return Ok(fine(signature.ret.copy(alloc)?));
             }
-            Ok(Checked::Untyped(disagrees(place)))
+            Ok(untyped(disagrees(place)))
         }
     }
 }
@@ -230,8 +232,8 @@ pub(crate) fn call_function(
     match pair(to, values) {
         Checked::Untyped(fault) => Ok(Checked::Untyped(fault)),
         Checked::Typed(both, fault) => {
-            let (to, values) = both;
             let name = name.copy(alloc)?;
+            let (to, values) = both.out();
             Ok(also(fault, fine(TStmt::Call(to, name, values))))
         }
     }
@@ -249,7 +251,7 @@ fn argument(
     ensures { IfOk result (λ v. v ≡ argument scope.now place t.now (option_copied e.entry)) }
 {
     match e {
-        None => Ok(Checked::Untyped(disagrees(place))),
+        None => Ok(untyped(disagrees(place))),
         Some(e) => {
             let part = judge(alloc, scope, e)?;
             passed(alloc, Some(t), part)
@@ -268,12 +270,12 @@ pub(crate) fn call_builtin(
     ensures { IfOk result (λ s. s ≡ call_builtin scope.now place (option_copied target.entry) b args.now) }
 {
     let to = result_of(alloc, scope, place, target, fine(CType::Void))?;
-    let t = parameter_of(alloc, b)?;
-    let value = argument(alloc, scope, place, &t, one(args))?;
+    let t = hold(parameter_of(alloc, b)?);
+    let value = argument(alloc, scope, place, t.get(), one(args))?;
     match pair(to, value) {
         Checked::Untyped(fault) => Ok(Checked::Untyped(fault)),
         Checked::Typed(both, fault) => {
-            let (_, value) = both;
+            let (_, value) = both.out();
             Ok(also(fault, fine(builtin_statement(b, value))))
         }
     }
@@ -300,9 +302,9 @@ fn malloc_cells(
     ensures { IfOk result (λ n. n ≡ malloc_cells scope.now place (option_copied e.entry)) }
 {
     match e {
-        None => Ok(Checked::Untyped(disagrees(place))),
+        None => Ok(untyped(disagrees(place))),
         Some(e) => match size_named(e) {
-            None => Ok(Checked::Untyped(disagrees(place))),
+            None => Ok(untyped(disagrees(place))),
             Some(t) => cells(alloc, scope.structs(), e.place, t),
         },
     }
@@ -317,7 +319,7 @@ fn malloc_result(
     ensures { IfOk result (λ x. x ≡ malloc_result scope.now place (option_copied target.entry)) }
 {
     match target {
-        None => Ok(Checked::Untyped(disagrees(place))),
+        None => Ok(untyped(disagrees(place))),
         Some(e) => {
             let typ = pointer_to(alloc, &CType::Void)?;
             result_of(alloc, scope, place, Some(e), fine(typ))
@@ -348,7 +350,7 @@ pub(crate) fn call_malloc(
     match pair(to, n) {
         Checked::Untyped(fault) => Ok(Checked::Untyped(fault)),
         Checked::Typed(both, fault) => {
-            let (to, n) = both;
+            let (to, n) = both.out();
             Ok(also(fault, fine(malloc_statement(to, n))))
         }
     }

@@ -3,7 +3,7 @@
 ghost use Rattle.std.specs.Prelude.{◌≡◌};
 ghost use Rattle.vd_ctyping.specs.Fault.{place_of, is_typing, comes_before, earlier, first};
 
-use vd_base::{CType, Name};
+use vd_base::{CType, Held, Name};
 
 /// Why a function is not typed. Each place is a byte offset in its section.
 #[derive(Debug, Drop)]
@@ -51,14 +51,17 @@ impl TypeFault {
 }
 
 /// The first of two faults.
-pub(crate) fn earlier(a: TypeFault, b: TypeFault) -> TypeFault
+pub(crate) fn earlier(a: Held<TypeFault>, b: Held<TypeFault>) -> Held<TypeFault>
     ensures { result ≡ earlier a b }
 {
-    if b.comes_before(&a) { b } else { a }
+    if b.get().comes_before(a.get()) { b } else { a }
 }
 
 /// The first of faults that may be there.
-pub(crate) fn first(a: Option<TypeFault>, b: Option<TypeFault>) -> Option<TypeFault>
+pub(crate) fn first(
+    a: Option<Held<TypeFault>>,
+    b: Option<Held<TypeFault>>,
+) -> Option<Held<TypeFault>>
     ensures { result ≡ first a b }
 {
     match (a, b) {

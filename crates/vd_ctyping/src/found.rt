@@ -4,11 +4,11 @@ ghost use Rattle.std.specs.Prelude.{◌≡◌, IfOk};
 ghost use Rattle.vd_ctyping.specs.Found.{as_operand, read, stands_for, truth, as_target, stored, pointer_to};
 ghost use Rattle.vd_ctyping.specs.CheckedExpression.{operand_of, as_condition, truth_of, condition_of, left_side};
 
-use crate::checked::{Checked, also, fine};
+use crate::checked::{Checked, also, fine, unwanted};
 use crate::fault::TypeFault;
 use crate::shape::{element_of, is_integer, is_pointer, is_scalar, kind_of};
 use std::alloc::{AllocError, Global};
-use vd_base::{Boxed, CType};
+use vd_base::{Boxed, CType, Held, hold};
 use vd_clight::{Cond, Lval, TExpr};
 
 /// What an expression denotes.
@@ -17,20 +17,20 @@ pub(crate) enum Form {
     /// The constant 0, which converts to any pointer.
     Zero,
     /// A value that needs no memory.
-    Value(TExpr),
+    Value(Held<TExpr>),
     /// A parameter or temporary.
     Temporary(u32),
     /// A place in memory.
-    Memory(Lval),
+    Memory(Held<Lval>),
     /// A test of two pointers, with its place, and whether it asks that they are equal.
-    Test(u32, TExpr, TExpr, bool),
+    Test(u32, Held<TExpr>, Held<TExpr>, bool),
 }
 
 /// A typed expression, and the place of its first token.
 #[derive(Drop)]
 pub(crate) struct Found {
     pub(crate) place: u32,
-    pub(crate) typ: CType,
+    pub(crate) typ: Held<CType>,
     pub(crate) form: Form,
 }
 
@@ -38,30 +38,30 @@ pub(crate) struct Found {
 #[derive(Drop)]
 pub(crate) struct Operand {
     pub(crate) place: u32,
-    pub(crate) typ: CType,
+    pub(crate) typ: Held<CType>,
     pub(crate) zero: bool,
-    pub(crate) value: TExpr,
+    pub(crate) value: Held<TExpr>,
 }
 
 /// An expression that is tested, and the place that a pointer test has.
 #[derive(Drop)]
 pub(crate) struct Condition {
     pub(crate) place: u32,
-    pub(crate) test: Cond,
+    pub(crate) test: Held<Cond>,
 }
 
 /// Where a value goes.
 #[derive(Drop)]
 pub(crate) enum Destination {
     Temporary(u32),
-    Memory(Lval),
+    Memory(Held<Lval>),
 }
 
 /// An expression on the left side of an assignment.
 #[derive(Drop)]
 pub(crate) struct Target {
     pub(crate) place: u32,
-    pub(crate) typ: CType,
+    pub(crate) typ: Held<CType>,
     pub(crate) to: Destination,
 }
 
@@ -75,31 +75,36 @@ pub(crate) fn pointer_to(alloc: Global, t: &CType) -> Result<CType, AllocError>
 }
 
 /// What stands for the value of an expression without a normal form, and its fault.
-fn stands_for(place: u32, at: u32, typ: CType) -> Checked<Operand>
+fn stands_for(place: u32, at: u32, typ: Held<CType>) -> Checked<Operand>
     ensures { result ≡ stands_for place at typ }
 {
     let value = Operand {
         place,
         typ,
         zero: false,
-        value: TExpr::Temp(0),
+        value: hold(TExpr::Temp(0)),
     };
-    Checked::Typed(value, Some(TypeFault::NotNormal(at)))
+    Checked::Typed(hold(value), Some(hold(TypeFault::NotNormal(at))))
 }
 
 /// The value of a place in memory.
-fn read(alloc: Global, place: u32, typ: CType, l: Lval) -> Result<Checked<Operand>, AllocError>
+fn read(
+    alloc: Global,
+    place: u32,
+    typ: Held<CType>,
+    l: Held<Lval>,
+) -> Result<Checked<Operand>, AllocError>
     ensures { IfOk result (λ o. o ≡ read place typ l) }
 {
-    match element_of(&typ) {
+    match element_of(typ.get()) {
         None => Ok(stands_for(place, place, typ)),
         Some(element) => {
-            let typ = pointer_to(alloc, element)?;
+            let typ = hold(pointer_to(alloc, element)?);
             Ok(fine(Operand {
                 place,
                 typ,
                 zero: false,
-                value: TExpr::Addr(l),
+                value: hold(TExpr::Addr(l.out())),
             }))
         }
     }
@@ -114,7 +119,7 @@ pub(crate) fn as_operand(alloc: Global, found: Found) -> Result<Checked<Operand>
             place,
             typ,
             zero: true,
-            value: TExpr::Const(0),
+            value: hold(TExpr::Const(0)),
         })),
         Form::Value(value) => Ok(fine(Operand {
             place,
@@ -126,7 +131,7 @@ pub(crate) fn as_operand(alloc: Global, found: Found) -> Result<Checked<Operand>
             place,
             typ,
             zero: false,
-            value: TExpr::Temp(x),
+            value: hold(TExpr::Temp(x)),
         })),
         Form::Memory(l) => read(alloc, place, typ, l),
         Form::Test(at, _, _, _) => Ok(stands_for(place, at, typ)),
@@ -143,7 +148,7 @@ pub(crate) fn operand_of(
     match part {
         Checked::Untyped(fault) => Ok(Checked::Untyped(fault)),
         Checked::Typed(found, fault) => {
-            let value = as_operand(alloc, found)?;
+            let value = as_operand(alloc, found.out())?;
             Ok(also(fault, value))
         }
     }
@@ -161,15 +166,15 @@ fn truth(o: Operand) -> Checked<Condition>
         zero: _,
         value,
     } = o;
-    if is_integer(&typ) {
-        let test = Cond::Int(kind_of(&typ), value);
+    if is_integer(typ.get()) {
+        let test = hold(Cond::Int(kind_of(typ.get()), value.out()));
         return fine(Condition { place, test });
     }
-    if is_pointer(&typ) {
-        let test = Cond::Same(value, TExpr::Const(0), false);
+    if is_pointer(typ.get()) {
+        let test = hold(Cond::Same(value.out(), TExpr::Const(0), false));
         return fine(Condition { place, test });
     }
-    Checked::Untyped(TypeFault::Mismatch(place, CType::Void, typ))
+    unwanted(place, typ)
 }
 
 fn truth_of(alloc: Global, found: Found) -> Result<Checked<Condition>, AllocError>
@@ -177,7 +182,7 @@ fn truth_of(alloc: Global, found: Found) -> Result<Checked<Condition>, AllocErro
 {
     match as_operand(alloc, found)? {
         Checked::Untyped(fault) => Ok(Checked::Untyped(fault)),
-        Checked::Typed(o, fault) => Ok(also(fault, truth(o))),
+        Checked::Typed(o, fault) => Ok(also(fault, truth(o.out()))),
     }
 }
 
@@ -187,7 +192,7 @@ fn as_condition(alloc: Global, found: Found) -> Result<Checked<Condition>, Alloc
     let Found { place, typ, form } = found;
     match form {
         Form::Test(at, a, b, equal) => {
-            let test = Cond::Same(a, b, equal);
+            let test = hold(Cond::Same(a.out(), b.out(), equal));
             Ok(fine(Condition { place: at, test }))
         }
         Form::Zero => {
@@ -219,7 +224,7 @@ pub(crate) fn condition_of(
     match part {
         Checked::Untyped(fault) => Ok(Checked::Untyped(fault)),
         Checked::Typed(found, fault) => {
-            let test = as_condition(alloc, found)?;
+            let test = as_condition(alloc, found.out())?;
             Ok(also(fault, test))
         }
     }
@@ -228,14 +233,14 @@ pub(crate) fn condition_of(
 // ---- targets
 
 /// A place in memory to which a value goes: it has one cell.
-fn stored(place: u32, typ: CType, l: Lval) -> Checked<Target>
+fn stored(place: u32, typ: Held<CType>, l: Held<Lval>) -> Checked<Target>
     ensures { result ≡ stored place typ l }
 {
-    if is_scalar(&typ) {
+    if is_scalar(typ.get()) {
         let to = Destination::Memory(l);
         return fine(Target { place, typ, to });
     }
-    Checked::Untyped(TypeFault::Mismatch(place, CType::Void, typ))
+    unwanted(place, typ)
 }
 
 fn as_target(found: Found) -> Checked<Target>
@@ -243,14 +248,14 @@ fn as_target(found: Found) -> Checked<Target>
 {
     let Found { place, typ, form } = found;
     match form {
-        Form::Zero => Checked::Untyped(TypeFault::Mismatch(place, CType::Void, typ)),
-        Form::Value(_) => Checked::Untyped(TypeFault::Mismatch(place, CType::Void, typ)),
+        Form::Zero => unwanted(place, typ),
+        Form::Value(_) => unwanted(place, typ),
         Form::Temporary(x) => {
             let to = Destination::Temporary(x);
             fine(Target { place, typ, to })
         }
         Form::Memory(l) => stored(place, typ, l),
-        Form::Test(_, _, _, _) => Checked::Untyped(TypeFault::Mismatch(place, CType::Void, typ)),
+        Form::Test(_, _, _, _) => unwanted(place, typ),
     }
 }
 
@@ -260,6 +265,6 @@ pub(crate) fn left_side(part: Checked<Found>) -> Checked<Target>
 {
     match part {
         Checked::Untyped(fault) => Checked::Untyped(fault),
-        Checked::Typed(found, fault) => also(fault, as_target(found)),
+        Checked::Typed(found, fault) => also(fault, as_target(found.out())),
     }
 }

@@ -134,9 +134,9 @@ fn finished(
     ensures { IfOk result (λ t. t ≡ finished f.now body) }
 {
     match body {
-        Checked::Untyped(fault) => Ok(Err(fault)),
+        Checked::Untyped(fault) => Ok(Err(fault.out())),
         Checked::Typed(body, fault) => match fault {
-            Some(fault) => Ok(Err(fault)),
+            Some(fault) => Ok(Err(fault.out())),
             None => {
                 let name = f.name.copy(alloc)?;
                 let ret = f.ret.copy(alloc)?;
@@ -145,7 +145,7 @@ fn finished(
                     ret,
                     params: f.params.len() as u32,
                     temps: names,
-                    body,
+                    body: body.out(),
                 }))
             }
         },

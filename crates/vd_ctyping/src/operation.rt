@@ -5,12 +5,12 @@ ghost use Rattle.vd_clight.specs.declared.typed.TExpr.{Binary};
 ghost use Rattle.vd_ctyping.specs.Operation.{as_integer, as_unsigned, as_scalar, wants_bits, wants, wants_cast, wants_alike, computed, common, opposite, complement, negation, arithmetic, bitwise, shift, comparison, equality, class_of, binary, cast, comparable};
 ghost use Rattle.vd_ctyping.specs.CheckedExpression.{integer_of, unsigned_of, scalar_of, judge_unary, left_of, right_of, judge_binary, judge_cast};
 
-use crate::checked::{Checked, also, fine, pair, unless};
+use crate::checked::{Checked, also, fine, pair, unless, untyped, unwanted};
 use crate::fault::TypeFault;
 use crate::found::{Condition, Form, Found, Operand, condition_of, operand_of};
 use crate::shape::{converts, is_castable, is_integer, is_scalar, is_unsigned, kind_of};
 use std::alloc::{AllocError, Global};
-use vd_base::{Boxed, CType};
+use vd_base::{Boxed, CType, Held, hold};
 use vd_clight::{BinOp, Cond, Kind, TExpr, UnOp};
 
 // ---- what operands have to be
@@ -24,17 +24,17 @@ pub(crate) fn integer_of(
 {
     match operand_of(alloc, part)? {
         Checked::Untyped(fault) => Ok(Checked::Untyped(fault)),
-        Checked::Typed(o, fault) => Ok(also(fault, as_integer(o))),
+        Checked::Typed(o, fault) => Ok(also(fault, as_integer(o.out()))),
     }
 }
 
 fn as_integer(o: Operand) -> Checked<Operand>
     ensures { result ≡ as_integer o }
 {
-    if is_integer(&o.typ) {
+    if is_integer(o.typ.get()) {
         return fine(o);
     }
-    Checked::Untyped(TypeFault::Mismatch(o.place, CType::Void, o.typ))
+    unwanted(o.place, o.typ)
 }
 
 /// A part whose value is unsigned.
@@ -43,17 +43,17 @@ fn unsigned_of(alloc: Global, part: Checked<Found>) -> Result<Checked<Operand>, 
 {
     match operand_of(alloc, part)? {
         Checked::Untyped(fault) => Ok(Checked::Untyped(fault)),
-        Checked::Typed(o, fault) => Ok(also(fault, as_unsigned(o))),
+        Checked::Typed(o, fault) => Ok(also(fault, as_unsigned(o.out()))),
     }
 }
 
 fn as_unsigned(o: Operand) -> Checked<Operand>
     ensures { result ≡ as_unsigned o }
 {
-    if is_unsigned(&o.typ) {
+    if is_unsigned(o.typ.get()) {
         return fine(o);
     }
-    Checked::Untyped(TypeFault::Mismatch(o.place, CType::Unsigned, o.typ))
+    untyped(TypeFault::Mismatch(o.place, CType::Unsigned, o.typ.out()))
 }
 
 /// A part whose value can be compared: an integer or a pointer.
@@ -62,108 +62,131 @@ fn scalar_of(alloc: Global, part: Checked<Found>) -> Result<Checked<Operand>, Al
 {
     match operand_of(alloc, part)? {
         Checked::Untyped(fault) => Ok(Checked::Untyped(fault)),
-        Checked::Typed(o, fault) => Ok(also(fault, as_scalar(o))),
+        Checked::Typed(o, fault) => Ok(also(fault, as_scalar(o.out()))),
     }
 }
 
 fn as_scalar(o: Operand) -> Checked<Operand>
     ensures { result ≡ as_scalar o }
 {
-    if is_scalar(&o.typ) {
+    if is_scalar(o.typ.get()) {
         return fine(o);
     }
-    Checked::Untyped(TypeFault::Mismatch(o.place, CType::Void, o.typ))
+    unwanted(o.place, o.typ)
 }
 
 /// One of two integers of a bit operation is unsigned, else the first disagrees.
-fn wants_bits(alloc: Global, a: &Operand, b: &Operand) -> Result<Option<TypeFault>, AllocError>
+fn wants_bits(
+    alloc: Global,
+    a: &Operand,
+    b: &Operand,
+) -> Result<Option<Held<TypeFault>>, AllocError>
     ensures { IfOk result (λ f. f ≡ wants_bits a.now b.now) }
 {
-    if is_unsigned(&a.typ) || is_unsigned(&b.typ) {
+    if is_unsigned(a.typ.get()) || is_unsigned(b.typ.get()) {
         return Ok(None);
     }
-    let found = a.typ.copy(alloc)?;
-    Ok(Some(TypeFault::Mismatch(a.place, CType::Unsigned, found)))
+    let found = a.typ.get().copy(alloc)?;
+    let fault = TypeFault::Mismatch(a.place, CType::Unsigned, found);
+    Ok(Some(hold(fault)))
 }
 
 /// A value that has to convert to a type.
-pub(crate) fn wants(alloc: Global, t: &CType, o: &Operand) -> Result<Option<TypeFault>, AllocError>
+pub(crate) fn wants(
+    alloc: Global,
+    t: &CType,
+    o: &Operand,
+) -> Result<Option<Held<TypeFault>>, AllocError>
     ensures { IfOk result (λ f. f ≡ wants t.now o.now) }
 {
-    if converts(o.zero, &o.typ, t) {
+    if converts(o.zero, o.typ.get(), t) {
         return Ok(None);
     }
-    let wanted = t.copy(alloc)?;
-    let found = o.typ.copy(alloc)?;
-    Ok(Some(TypeFault::Mismatch(o.place, wanted, found)))
+    let wanted = hold(t.copy(alloc)?);
+    let found = o.typ.get().copy(alloc)?;
+    let fault = TypeFault::Mismatch(o.place, wanted.out(), found);
+    Ok(Some(hold(fault)))
 }
 
-fn wants_cast(alloc: Global, t: &CType, o: &Operand) -> Result<Option<TypeFault>, AllocError>
+fn wants_cast(alloc: Global, t: &CType, o: &Operand) -> Result<Option<Held<TypeFault>>, AllocError>
     ensures { IfOk result (λ f. f ≡ wants_cast t.now o.now) }
 {
-    if is_castable(o.zero, &o.typ, t) {
+    if is_castable(o.zero, o.typ.get(), t) {
         return Ok(None);
     }
-    let wanted = t.copy(alloc)?;
-    let found = o.typ.copy(alloc)?;
-    Ok(Some(TypeFault::Mismatch(o.place, wanted, found)))
+    let wanted = hold(t.copy(alloc)?);
+    let found = o.typ.get().copy(alloc)?;
+    let fault = TypeFault::Mismatch(o.place, wanted.out(), found);
+    Ok(Some(hold(fault)))
 }
 
 fn are_comparable(a: &Operand, b: &Operand) -> bool
     ensures { result ≡ comparable a.now b.now }
 {
-    converts(a.zero, &a.typ, &b.typ) || converts(b.zero, &b.typ, &a.typ)
+    converts(a.zero, a.typ.get(), b.typ.get()) || converts(b.zero, b.typ.get(), a.typ.get())
 }
 
 /// Two values of which one converts to the other's type, else the later disagrees.
-fn wants_alike(alloc: Global, a: &Operand, b: &Operand) -> Result<Option<TypeFault>, AllocError>
+fn wants_alike(
+    alloc: Global,
+    a: &Operand,
+    b: &Operand,
+) -> Result<Option<Held<TypeFault>>, AllocError>
     ensures { IfOk result (λ f. f ≡ wants_alike a.now b.now) }
 {
     if are_comparable(a, b) {
         return Ok(None);
     }
-    let left = a.typ.copy(alloc)?;
-    let right = b.typ.copy(alloc)?;
-    Ok(Some(TypeFault::Mismatch(b.place, left, right)))
+    let left = hold(a.typ.get().copy(alloc)?);
+    let right = b.typ.get().copy(alloc)?;
+    let fault = TypeFault::Mismatch(b.place, left.out(), right);
+    Ok(Some(hold(fault)))
 }
 
 // ---- one operand
 
-pub(crate) fn computed(place: u32, typ: CType, value: TExpr) -> Found
+pub(crate) fn computed(place: u32, typ: Held<CType>, value: TExpr) -> Found
     ensures { result ≡ computed place typ value }
 {
-    let form = Form::Value(value);
+    let form = Form::Value(hold(value));
     Found { place, typ, form }
 }
 
 fn opposite(alloc: Global, place: u32, o: Operand) -> Result<Checked<Found>, AllocError>
     ensures { IfOk result (λ f. f ≡ opposite place o) }
 {
-    let kind = kind_of(&o.typ);
-    let value = TExpr::Unary(UnOp::Minus, kind, Boxed::new(alloc, o.value)?);
-    Ok(fine(computed(place, o.typ, value)))
+    let Operand {
+        place: _,
+        typ,
+        zero: _,
+        value,
+    } = o;
+    let value = Boxed::new(alloc, value.out())?;
+    let value = TExpr::Unary(UnOp::Minus, kind_of(typ.get()), value);
+    Ok(fine(computed(place, typ, value)))
 }
 
 fn complement(alloc: Global, place: u32, o: Operand) -> Result<Checked<Found>, AllocError>
     ensures { IfOk result (λ f. f ≡ complement place o) }
 {
-    let value = TExpr::Unary(UnOp::Invert, Kind::Unsigned, Boxed::new(alloc, o.value)?);
-    Ok(fine(computed(place, CType::Unsigned, value)))
+    let value = Boxed::new(alloc, o.value.out())?;
+    let value = TExpr::Unary(UnOp::Invert, Kind::Unsigned, value);
+    Ok(fine(computed(place, hold(CType::Unsigned), value)))
 }
 
 fn negation(alloc: Global, place: u32, c: Condition) -> Result<Checked<Found>, AllocError>
     ensures { IfOk result (λ f. f ≡ negation place c) }
 {
     let Condition { place: at, test } = c;
-    match test {
+    match test.out() {
         Cond::Int(kind, value) => {
             let value = TExpr::Unary(UnOp::Not, kind, Boxed::new(alloc, value)?);
-            Ok(fine(computed(place, CType::Int, value)))
+            Ok(fine(computed(place, hold(CType::Int), value)))
         }
         Cond::Same(a, b, equal) => Ok(fine(Found {
             place,
-            typ: CType::Int,
-            form: Form::Test(at, a, b, !equal),
+            typ: hold(CType::Int),
+            form: Form::Test(at, hold(a), hold(b), !equal),
         })),
     }
 }
@@ -180,15 +203,15 @@ pub(crate) fn judge_unary(
     match op {
         UnOp::Minus => match integer_of(alloc, part)? {
             Checked::Untyped(fault) => Ok(Checked::Untyped(fault)),
-            Checked::Typed(o, fault) => Ok(also(fault, opposite(alloc, place, o)?)),
+            Checked::Typed(o, fault) => Ok(also(fault, opposite(alloc, place, o.out())?)),
         },
         UnOp::Not => match condition_of(alloc, part)? {
             Checked::Untyped(fault) => Ok(Checked::Untyped(fault)),
-            Checked::Typed(c, fault) => Ok(also(fault, negation(alloc, place, c)?)),
+            Checked::Typed(c, fault) => Ok(also(fault, negation(alloc, place, c.out())?)),
         },
         UnOp::Invert => match unsigned_of(alloc, part)? {
             Checked::Untyped(fault) => Ok(Checked::Untyped(fault)),
-            Checked::Typed(o, fault) => Ok(also(fault, complement(alloc, place, o)?)),
+            Checked::Typed(o, fault) => Ok(also(fault, complement(alloc, place, o.out())?)),
         },
     }
 }
@@ -199,7 +222,7 @@ pub(crate) fn judge_unary(
 fn common(a: &Operand, b: &Operand) -> CType
     ensures { result ≡ common a.now b.now }
 {
-    if is_unsigned(&a.typ) || is_unsigned(&b.typ) {
+    if is_unsigned(a.typ.get()) || is_unsigned(b.typ.get()) {
         CType::Unsigned
     } else {
         CType::Int
@@ -210,13 +233,13 @@ fn operation(
     alloc: Global,
     op: BinOp,
     kind: Kind,
-    a: Operand,
-    b: Operand,
+    a: Held<TExpr>,
+    b: Held<TExpr>,
 ) -> Result<TExpr, AllocError>
-    ensures { IfOk result (λ e. e ≡ Binary op kind a.value b.value) }
+    ensures { IfOk result (λ e. e ≡ Binary op kind a b) }
 {
-    let left = Boxed::new(alloc, a.value)?;
-    let right = Boxed::new(alloc, b.value)?;
+    let left = Boxed::new(alloc, a.out())?;
+    let right = Boxed::new(alloc, b.out())?;
     Ok(TExpr::Binary(op, kind, left, right))
 }
 
@@ -229,8 +252,8 @@ fn arithmetic(
 ) -> Result<Checked<Found>, AllocError>
     ensures { IfOk result (λ f. f ≡ arithmetic op place (a, b)) }
 {
-    let typ = common(&a, &b);
-    let value = operation(alloc, op, kind_of(&typ), a, b)?;
+    let typ = hold(common(&a, &b));
+    let value = operation(alloc, op, kind_of(typ.get()), a.value, b.value)?;
     Ok(fine(computed(place, typ, value)))
 }
 
@@ -244,8 +267,8 @@ fn bitwise(
     ensures { IfOk result (λ f. f ≡ bitwise op place (a, b)) }
 {
     let fault = wants_bits(alloc, &a, &b)?;
-    let value = operation(alloc, op, Kind::Unsigned, a, b)?;
-    Ok(unless(fault, computed(place, CType::Unsigned, value)))
+    let value = operation(alloc, op, Kind::Unsigned, a.value, b.value)?;
+    Ok(unless(fault, computed(place, hold(CType::Unsigned), value)))
 }
 
 fn shift(
@@ -257,8 +280,8 @@ fn shift(
 ) -> Result<Checked<Found>, AllocError>
     ensures { IfOk result (λ f. f ≡ shift op place (a, b)) }
 {
-    let value = operation(alloc, op, Kind::Unsigned, a, b)?;
-    Ok(fine(computed(place, CType::Unsigned, value)))
+    let value = operation(alloc, op, Kind::Unsigned, a.value, b.value)?;
+    Ok(fine(computed(place, hold(CType::Unsigned), value)))
 }
 
 fn comparison(
@@ -271,8 +294,8 @@ fn comparison(
     ensures { IfOk result (λ f. f ≡ comparison op place (a, b)) }
 {
     let kind = kind_of(&common(&a, &b));
-    let value = operation(alloc, op, kind, a, b)?;
-    Ok(fine(computed(place, CType::Int, value)))
+    let value = operation(alloc, op, kind, a.value, b.value)?;
+    Ok(fine(computed(place, hold(CType::Int), value)))
 }
 
 /// Whether two values are equal, or whether they differ: of integers an operation, of pointers a test.
@@ -286,12 +309,12 @@ fn equality(
 ) -> Result<Checked<Found>, AllocError>
     ensures { IfOk result (λ f. f ≡ equality op equal place (a, b)) }
 {
-    if is_integer(&a.typ) && is_integer(&b.typ) {
+    if is_integer(a.typ.get()) && is_integer(b.typ.get()) {
         return comparison(alloc, op, place, a, b);
     }
     let fault = wants_alike(alloc, &a, &b)?;
     let form = Form::Test(place, a.value, b.value, equal);
-    let typ = CType::Int;
+    let typ = hold(CType::Int);
     Ok(unless(fault, Found { place, typ, form }))
 }
 
@@ -398,7 +421,7 @@ pub(crate) fn judge_binary(
     match pair(left, right) {
         Checked::Untyped(fault) => Ok(Checked::Untyped(fault)),
         Checked::Typed(both, fault) => {
-            let (a, b) = both;
+            let (a, b) = both.out();
             Ok(also(fault, binary(alloc, class, op, place, a, b)?))
         }
     }
@@ -410,8 +433,8 @@ fn cast(alloc: Global, place: u32, t: &CType, o: Operand) -> Result<Checked<Foun
     ensures { IfOk result (λ f. f ≡ cast place t.now o) }
 {
     let fault = wants_cast(alloc, t, &o)?;
-    let typ = t.copy(alloc)?;
-    Ok(unless(fault, computed(place, typ, o.value)))
+    let typ = hold(t.copy(alloc)?);
+    Ok(unless(fault, computed(place, typ, o.value.out())))
 }
 
 /// A cast, which leaves nothing in typed syntax.
@@ -425,6 +448,6 @@ pub(crate) fn judge_cast(
 {
     match operand_of(alloc, part)? {
         Checked::Untyped(fault) => Ok(Checked::Untyped(fault)),
-        Checked::Typed(o, fault) => Ok(also(fault, cast(alloc, place, t, o)?)),
+        Checked::Typed(o, fault) => Ok(also(fault, cast(alloc, place, t, o.out())?)),
     }
 }

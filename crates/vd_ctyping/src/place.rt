@@ -6,14 +6,14 @@ ghost use Rattle.vd_ctyping.specs.Checked.{follows, pair};
 ghost use Rattle.vd_ctyping.specs.CheckedExpression.{integer_of, pointer_of, elements_of};
 ghost use Rattle.vd_ctyping.specs.Place.{number, cells, IsSmall, sized, aligned, variable, global_found, in_memory, lval, address_in, stepped, as_pointer, pointed, is_one_cell, as_elements, element, selected, field_in, unknown_name, dot, arrow, address};
 
-use crate::checked::{Checked, also, fine, pair};
+use crate::checked::{Checked, also, fine, pair, untyped, unwanted};
 use crate::fault::TypeFault;
 use crate::found::{Form, Found, Operand, operand_of, pointer_to};
 use crate::operation::{computed, integer_of};
 use crate::scope::Scope;
 use crate::shape::{is_void, kind_of, struct_of, target_of};
 use std::alloc::{AllocError, Global};
-use vd_base::{CType, List, Name, Structs};
+use vd_base::{CType, Held, List, Name, Structs, hold};
 use vd_clight::{Lval, Part, Root, TExpr};
 
 // ---- numbers and sizes
@@ -29,9 +29,13 @@ pub(crate) fn number(place: u32, n: u32, unsigned: bool) -> Found
     let form = if n == 0 {
         Form::Zero
     } else {
-        Form::Value(TExpr::Const(n))
+        Form::Value(hold(TExpr::Const(n)))
     };
-    Found { place, typ, form }
+    Found {
+        place,
+        typ: hold(typ),
+        form,
+    }
 }
 
 /// The cells of a type, which are few.
@@ -58,11 +62,11 @@ pub(crate) fn cells(
         None => match struct_of(t) {
             None => {
                 let found = t.copy(alloc)?;
-                Ok(Checked::Untyped(TypeFault::Mismatch(place, CType::Void, found)))
+                Ok(unwanted(place, hold(found)))
             }
             Some(s) => {
                 let s = s.copy(alloc)?;
-                Ok(Checked::Untyped(TypeFault::Unknown(place, s)))
+                Ok(untyped(TypeFault::Unknown(place, s)))
             }
         },
     }
@@ -80,8 +84,8 @@ pub(crate) fn sized(
     match cells(alloc, structs, place, t)? {
         Checked::Untyped(fault) => Ok(Checked::Untyped(fault)),
         Checked::Typed(n, fault) => {
-            let value = TExpr::Const(4 * n);
-            Ok(also(fault, fine(computed(place, CType::Unsigned, value))))
+            let value = TExpr::Const(4 * n.out());
+            Ok(also(fault, fine(computed(place, hold(CType::Unsigned), value))))
         }
     }
 }
@@ -99,14 +103,14 @@ pub(crate) fn aligned(
         Checked::Untyped(fault) => Ok(Checked::Untyped(fault)),
         Checked::Typed(_, fault) => {
             let value = TExpr::Const(4);
-            Ok(also(fault, fine(computed(place, CType::Unsigned, value))))
+            Ok(also(fault, fine(computed(place, hold(CType::Unsigned), value))))
         }
     }
 }
 
 // ---- variables
 
-fn in_memory(place: u32, typ: CType, l: Lval) -> Found
+fn in_memory(place: u32, typ: Held<CType>, l: Held<Lval>) -> Found
     ensures { result ≡ in_memory place typ l }
 {
     let form = Form::Memory(l);
@@ -132,8 +136,8 @@ fn global(
     match cells(alloc, structs, place, t)? {
         Checked::Untyped(fault) => Ok(Checked::Untyped(fault)),
         Checked::Typed(n, fault) => {
-            let l = root_alone(alloc, Root::Global(name.copy(alloc)?, n));
-            let typ = t.copy(alloc)?;
+            let l = hold(root_alone(alloc, Root::Global(name.copy(alloc)?, n.out())));
+            let typ = hold(t.copy(alloc)?);
             Ok(also(fault, fine(in_memory(place, typ, l))))
         }
     }
@@ -150,13 +154,13 @@ pub(crate) fn variable(
 {
     match scope.local(name) {
         Some(local) => {
-            let typ = local.1.copy(alloc)?;
+            let typ = hold(local.1.copy(alloc)?);
             let form = Form::Temporary(local.0);
             Ok(fine(Found { place, typ, form }))
         }
         None => match scope.global(name) {
             Some(t) => global(alloc, scope.structs(), place, name, t),
-            None => Ok(Checked::Untyped(TypeFault::Unknown(place, name.copy(alloc)?))),
+            None => Ok(untyped(TypeFault::Unknown(place, name.copy(alloc)?))),
         },
     }
 }
@@ -164,25 +168,25 @@ pub(crate) fn variable(
 // ---- addresses
 
 /// The place that a pointer's value points to. An address has a root.
-fn address_in(alloc: Global, value: TExpr) -> Option<Lval>
+fn address_in(alloc: Global, value: Held<TExpr>) -> Option<Held<Lval>>
     ensures { result ≡ address_in value }
 {
-    match value {
+    match value.out() {
         TExpr::Const(_) => None,
-        TExpr::Temp(x) => Some(root_alone(alloc, Root::Temp(x))),
-        TExpr::Addr(l) => Some(l),
+        TExpr::Temp(x) => Some(hold(root_alone(alloc, Root::Temp(x)))),
+        TExpr::Addr(l) => Some(hold(l)),
         TExpr::Unary(_, _, _) => None,
         TExpr::Binary(_, _, _, _) => None,
     }
 }
 
 /// A place further on.
-fn stepped(part: Part, l: Lval) -> Result<Lval, AllocError>
+fn stepped(part: Part, l: Held<Lval>) -> Result<Held<Lval>, AllocError>
     ensures { IfOk result (λ l'. l' ≡ stepped part l) }
 {
-    let Lval { root, mut path } = l;
+    let Lval { root, mut path } = l.out();
     path.push(part)?;
-    Ok(Lval { root, path })
+    Ok(hold(Lval { root, path }))
 }
 
 // ---- pointers
@@ -191,9 +195,9 @@ fn stepped(part: Part, l: Lval) -> Result<Lval, AllocError>
 #[derive(Drop)]
 pub(crate) struct Pointer {
     pub(crate) place: u32,
-    pub(crate) typ: CType,
-    pub(crate) target: CType,
-    pub(crate) to: Lval,
+    pub(crate) typ: Held<CType>,
+    pub(crate) target: Held<CType>,
+    pub(crate) to: Held<Lval>,
 }
 
 fn as_pointer(alloc: Global, o: Operand) -> Result<Checked<Pointer>, AllocError>
@@ -205,12 +209,12 @@ fn as_pointer(alloc: Global, o: Operand) -> Result<Checked<Pointer>, AllocError>
         zero: _,
         value,
     } = o;
-    match target_of(&typ) {
-        None => Ok(Checked::Untyped(TypeFault::Mismatch(place, CType::Void, typ))),
+    match target_of(typ.get()) {
+        None => Ok(unwanted(place, typ)),
         Some(t) => match address_in(alloc, value) {
-            None => Ok(Checked::Untyped(TypeFault::Mismatch(place, CType::Void, typ))),
+            None => Ok(unwanted(place, typ)),
             Some(to) => {
-                let target = t.copy(alloc)?;
+                let target = hold(t.copy(alloc)?);
                 Ok(fine(Pointer {
                     place,
                     typ,
@@ -228,7 +232,7 @@ fn pointer_of(alloc: Global, part: Checked<Found>) -> Result<Checked<Pointer>, A
 {
     match operand_of(alloc, part)? {
         Checked::Untyped(fault) => Ok(Checked::Untyped(fault)),
-        Checked::Typed(o, fault) => Ok(also(fault, as_pointer(alloc, o)?)),
+        Checked::Typed(o, fault) => Ok(also(fault, as_pointer(alloc, o.out())?)),
     }
 }
 
@@ -237,8 +241,8 @@ fn pointer_of(alloc: Global, part: Checked<Found>) -> Result<Checked<Pointer>, A
 fn pointed(place: u32, p: Pointer) -> Checked<Found>
     ensures { result ≡ pointed place p }
 {
-    if is_void(&p.target) {
-        return Checked::Untyped(TypeFault::Mismatch(p.place, CType::Void, p.typ));
+    if is_void(p.target.get()) {
+        return unwanted(p.place, p.typ);
     }
     fine(in_memory(place, p.target, p.to))
 }
@@ -253,7 +257,7 @@ pub(crate) fn judge_deref(
 {
     match pointer_of(alloc, part)? {
         Checked::Untyped(fault) => Ok(Checked::Untyped(fault)),
-        Checked::Typed(p, fault) => Ok(also(fault, pointed(place, p))),
+        Checked::Typed(p, fault) => Ok(also(fault, pointed(place, p.out()))),
     }
 }
 
@@ -271,10 +275,10 @@ fn is_one_cell(structs: &Structs, t: &CType) -> bool
 fn as_elements(structs: &Structs, p: Pointer) -> Checked<Pointer>
     ensures { result ≡ as_elements structs.now p }
 {
-    if is_one_cell(structs, &p.target) {
+    if is_one_cell(structs, p.target.get()) {
         return fine(p);
     }
-    Checked::Untyped(TypeFault::Mismatch(p.place, CType::Void, p.typ))
+    unwanted(p.place, p.typ)
 }
 
 /// A part that points to elements, which have one cell.
@@ -287,14 +291,14 @@ fn elements_of(
 {
     match pointer_of(alloc, part)? {
         Checked::Untyped(fault) => Ok(Checked::Untyped(fault)),
-        Checked::Typed(p, fault) => Ok(also(fault, as_elements(structs, p))),
+        Checked::Typed(p, fault) => Ok(also(fault, as_elements(structs, p.out()))),
     }
 }
 
 fn element(place: u32, p: Pointer, i: Operand) -> Result<Checked<Found>, AllocError>
     ensures { IfOk result (λ f. f ≡ element place (p, i)) }
 {
-    let part = Part::Index(kind_of(&i.typ), i.value);
+    let part = Part::Index(kind_of(i.typ.get()), i.value.out());
     let l = stepped(part, p.to)?;
     Ok(fine(in_memory(place, p.target, l)))
 }
@@ -314,7 +318,7 @@ pub(crate) fn judge_index(
     match pair(part, index) {
         Checked::Untyped(fault) => Ok(Checked::Untyped(fault)),
         Checked::Typed(both, fault) => {
-            let (p, i) = both;
+            let (p, i) = both.out();
             Ok(also(fault, element(place, p, i)?))
         }
     }
@@ -354,17 +358,17 @@ fn selected(
     f: &Name,
     t: &CType,
     s: &Name,
-    l: Lval,
+    l: Held<Lval>,
 ) -> Result<Checked<Found>, AllocError>
     ensures { IfOk result (λ r. r ≡ selected structs.now place f.now t.now s.now l) }
 {
     match field_in(structs, s, f) {
         None => {
             let name = unknown_name(alloc, structs, t, s, f)?;
-            Ok(Checked::Untyped(TypeFault::Unknown(place, name)))
+            Ok(untyped(TypeFault::Unknown(place, name)))
         }
         Some(field) => {
-            let typ = field.1.copy(alloc)?;
+            let typ = hold(field.1.copy(alloc)?);
             let l = stepped(Part::Offset(field.0), l)?;
             Ok(fine(in_memory(place, typ, l)))
         }
@@ -386,14 +390,14 @@ fn dot(
         form,
     } = e;
     match form {
-        Form::Zero => Ok(Checked::Untyped(TypeFault::Mismatch(at, CType::Void, typ))),
-        Form::Value(_) => Ok(Checked::Untyped(TypeFault::Mismatch(at, CType::Void, typ))),
-        Form::Temporary(_) => Ok(Checked::Untyped(TypeFault::Mismatch(at, CType::Void, typ))),
-        Form::Memory(l) => match struct_of(&typ) {
-            None => Ok(Checked::Untyped(TypeFault::Mismatch(at, CType::Void, typ))),
-            Some(s) => selected(alloc, structs, place, f, &typ, s, l),
+        Form::Zero => Ok(unwanted(at, typ)),
+        Form::Value(_) => Ok(unwanted(at, typ)),
+        Form::Temporary(_) => Ok(unwanted(at, typ)),
+        Form::Memory(l) => match struct_of(typ.get()) {
+            None => Ok(unwanted(at, typ)),
+            Some(s) => selected(alloc, structs, place, f, typ.get(), s, l),
         },
-        Form::Test(_, _, _, _) => Ok(Checked::Untyped(TypeFault::Mismatch(at, CType::Void, typ))),
+        Form::Test(_, _, _, _) => Ok(unwanted(at, typ)),
     }
 }
 
@@ -409,7 +413,7 @@ pub(crate) fn judge_field(
 {
     match part {
         Checked::Untyped(fault) => Ok(Checked::Untyped(fault)),
-        Checked::Typed(e, fault) => Ok(also(fault, dot(alloc, structs, place, f, e)?)),
+        Checked::Typed(e, fault) => Ok(also(fault, dot(alloc, structs, place, f, e.out())?)),
     }
 }
 
@@ -428,9 +432,9 @@ fn arrow(
         target,
         to,
     } = p;
-    match struct_of(&target) {
-        None => Ok(Checked::Untyped(TypeFault::Mismatch(at, CType::Void, typ))),
-        Some(s) => selected(alloc, structs, place, f, &target, s, to),
+    match struct_of(target.get()) {
+        None => Ok(unwanted(at, typ)),
+        Some(s) => selected(alloc, structs, place, f, target.get(), s, to),
     }
 }
 
@@ -446,7 +450,7 @@ pub(crate) fn judge_arrow(
 {
     match pointer_of(alloc, part)? {
         Checked::Untyped(fault) => Ok(Checked::Untyped(fault)),
-        Checked::Typed(p, fault) => Ok(also(fault, arrow(alloc, structs, place, f, p)?)),
+        Checked::Typed(p, fault) => Ok(also(fault, arrow(alloc, structs, place, f, p.out())?)),
     }
 }
 
@@ -461,14 +465,14 @@ fn address(alloc: Global, place: u32, e: Found) -> Result<Checked<Found>, AllocE
         form,
     } = e;
     match form {
-        Form::Zero => Ok(Checked::Untyped(TypeFault::Mismatch(at, CType::Void, typ))),
-        Form::Value(_) => Ok(Checked::Untyped(TypeFault::Mismatch(at, CType::Void, typ))),
-        Form::Temporary(_) => Ok(Checked::Untyped(TypeFault::Mismatch(at, CType::Void, typ))),
+        Form::Zero => Ok(unwanted(at, typ)),
+        Form::Value(_) => Ok(unwanted(at, typ)),
+        Form::Temporary(_) => Ok(unwanted(at, typ)),
         Form::Memory(l) => {
-            let typ = pointer_to(alloc, &typ)?;
-            Ok(fine(computed(place, typ, TExpr::Addr(l))))
+            let typ = hold(pointer_to(alloc, typ.get())?);
+            Ok(fine(computed(place, typ, TExpr::Addr(l.out()))))
         }
-        Form::Test(_, _, _, _) => Ok(Checked::Untyped(TypeFault::Mismatch(at, CType::Void, typ))),
+        Form::Test(_, _, _, _) => Ok(unwanted(at, typ)),
     }
 }
 
@@ -482,6 +486,6 @@ pub(crate) fn judge_address(
 {
     match part {
         Checked::Untyped(fault) => Ok(Checked::Untyped(fault)),
-        Checked::Typed(e, fault) => Ok(also(fault, address(alloc, place, e)?)),
+        Checked::Typed(e, fault) => Ok(also(fault, address(alloc, place, e.out())?)),
     }
 }

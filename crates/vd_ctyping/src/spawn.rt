@@ -8,14 +8,14 @@ use crate::builtin::builtin_of;
 use crate::call::{
     call_builtin, call_function, call_malloc, disagrees, one, passed_by, result_of, two,
 };
-use crate::checked::{Checked, also, fine, pair};
+use crate::checked::{Checked, also, fine, pair, untyped};
 use crate::expression::judge;
 use crate::fault::TypeFault;
 use crate::found::operand_of;
 use crate::scope::Scope;
 use crate::shape::is_void;
 use std::alloc::{AllocError, Global};
-use vd_base::{CType, Name};
+use vd_base::{CType, Name, hold};
 use vd_clight::{Expr, ExprNode, Signature, TExpr, TStmt};
 
 /// The name that an expression is.
@@ -40,15 +40,15 @@ fn starts_by(
     match signature {
         None => {
             let name = name.copy(alloc)?;
-            Ok(Checked::Untyped(TypeFault::Unknown(at, name)))
+            Ok(untyped(TypeFault::Unknown(at, name)))
         }
         Some(signature) => match one(signature.params.as_slice()) {
-            None => Ok(Checked::Untyped(disagrees(at))),
+            None => Ok(untyped(disagrees(at))),
             Some(parameter) => {
                 if is_void(&signature.ret) {
                     return Ok(fine(parameter.typ.copy(alloc)?));
                 }
-                Ok(Checked::Untyped(disagrees(at)))
+                Ok(untyped(disagrees(at)))
             }
         },
     }
@@ -69,8 +69,9 @@ fn spawned(
     match pair(typ, value) {
         Checked::Untyped(fault) => Ok(Checked::Untyped(fault)),
         Checked::Typed(both, fault) => {
-            let (typ, value) = both;
-            Ok(also(fault, passed_by(alloc, Some(&typ), value)?))
+            let (typ, value) = both.out();
+            let typ = hold(typ);
+            Ok(also(fault, passed_by(alloc, Some(typ.get()), value)?))
         }
     }
 }
@@ -85,14 +86,14 @@ fn thread(
     ensures { IfOk result (λ t. t ≡ thread scope.now place (option_map (λ p. (p.0.now, p.1.now)) both.entry)) }
 {
     match both {
-        None => Ok(Checked::Untyped(disagrees(place))),
+        None => Ok(untyped(disagrees(place))),
         Some(both) => match name_of(both.0) {
-            None => Ok(Checked::Untyped(disagrees(place))),
+            None => Ok(untyped(disagrees(place))),
             Some(name) => match spawned(alloc, scope, both.0.place, name, both.1)? {
                 Checked::Untyped(fault) => Ok(Checked::Untyped(fault)),
                 Checked::Typed(value, fault) => {
                     let name = name.copy(alloc)?;
-                    Ok(also(fault, fine((name, value))))
+                    Ok(also(fault, fine((name, value.out()))))
                 }
             },
         },
@@ -113,7 +114,7 @@ fn call_spawn(
     match pair(to, started) {
         Checked::Untyped(fault) => Ok(Checked::Untyped(fault)),
         Checked::Typed(both, fault) => {
-            let (_, started) = both;
+            let (_, started) = both.out();
             let (name, value) = started;
             Ok(also(fault, fine(TStmt::Spawn(name, value))))
         }

@@ -5,7 +5,7 @@ ghost use Rattle.vd_ctyping.specs.CheckedStatement.{set_value, set, store, assig
 ghost use Rattle.vd_ctyping.specs.Place.{in_memory};
 
 use crate::call::{passed, wants_type};
-use crate::checked::{Checked, added, also, fine, pair, unless};
+use crate::checked::{Checked, added, also, fine, pair, unless, untyped};
 use crate::expression::judge;
 use crate::fault::TypeFault;
 use crate::found::{Destination, Form, Found, Target, as_operand, condition_of, left_side};
@@ -14,7 +14,7 @@ use crate::scope::Scope;
 use crate::shape::{element_of, is_void};
 use crate::spawn::type_call;
 use std::alloc::{AllocError, Global};
-use vd_base::{CType, List};
+use vd_base::{CType, Held, List, hold};
 use vd_clight::{Cond, Expr, Lval, Stmt, StmtNode, TStmt};
 
 // ---- assignments
@@ -26,8 +26,9 @@ fn set_value(alloc: Global, x: u32, t: &CType, found: Found) -> Result<Checked<T
     match as_operand(alloc, found)? {
         Checked::Untyped(fault) => Ok(Checked::Untyped(fault)),
         Checked::Typed(o, fault) => {
-            let wrong = wants(alloc, t, &o)?;
-            Ok(also(fault, unless(wrong, TStmt::Set(x, o.value))))
+            let wrong = wants(alloc, t, o.get())?;
+            let value = o.out().value.out();
+            Ok(also(fault, unless(wrong, TStmt::Set(x, value))))
         }
     }
 }
@@ -38,17 +39,17 @@ fn set_memory(
     x: u32,
     t: &CType,
     place: u32,
-    typ: CType,
-    l: Lval,
+    typ: Held<CType>,
+    l: Held<Lval>,
 ) -> Result<Checked<TStmt>, AllocError>
     ensures { IfOk result (λ s. s ≡ set x t.now (in_memory place typ l)) }
 {
-    if element_of(&typ).is_some() {
+    if element_of(typ.get()).is_some() {
         let form = Form::Memory(l);
         return set_value(alloc, x, t, Found { place, typ, form });
     }
-    let wrong = wants_type(alloc, place, t, &typ)?;
-    Ok(unless(wrong, TStmt::Load(x, l)))
+    let wrong = wants_type(alloc, place, t, typ.get())?;
+    Ok(unless(wrong, TStmt::Load(x, l.out())))
 }
 
 fn set(alloc: Global, x: u32, t: &CType, found: Found) -> Result<Checked<TStmt>, AllocError>
@@ -77,14 +78,20 @@ fn set(alloc: Global, x: u32, t: &CType, found: Found) -> Result<Checked<TStmt>,
 }
 
 /// A value is stored in memory.
-fn store(alloc: Global, l: Lval, t: &CType, found: Found) -> Result<Checked<TStmt>, AllocError>
+fn store(
+    alloc: Global,
+    l: Held<Lval>,
+    t: &CType,
+    found: Found,
+) -> Result<Checked<TStmt>, AllocError>
     ensures { IfOk result (λ s. s ≡ store l t.now found) }
 {
     match as_operand(alloc, found)? {
         Checked::Untyped(fault) => Ok(Checked::Untyped(fault)),
         Checked::Typed(o, fault) => {
-            let wrong = wants(alloc, t, &o)?;
-            Ok(also(fault, unless(wrong, TStmt::Store(l, o.value))))
+            let wrong = wants(alloc, t, o.get())?;
+            let value = o.out().value.out();
+            Ok(also(fault, unless(wrong, TStmt::Store(l.out(), value))))
         }
     }
 }
@@ -94,8 +101,8 @@ fn assign(alloc: Global, target: Target, found: Found) -> Result<Checked<TStmt>,
 {
     let Target { place: _, typ, to } = target;
     match to {
-        Destination::Temporary(x) => set(alloc, x, &typ, found),
-        Destination::Memory(l) => store(alloc, l, &typ, found),
+        Destination::Temporary(x) => set(alloc, x, typ.get(), found),
+        Destination::Memory(l) => store(alloc, l, typ.get(), found),
     }
 }
 
@@ -112,7 +119,7 @@ fn type_assign(
     match pair(left, right) {
         Checked::Untyped(fault) => Ok(Checked::Untyped(fault)),
         Checked::Typed(both, fault) => {
-            let (target, found) = both;
+            let (target, found) = both.out();
             Ok(also(fault, assign(alloc, target, found)?))
         }
     }
@@ -125,7 +132,7 @@ fn type_test(alloc: Global, scope: &Scope<'_, '_>, e: &Expr) -> Result<Checked<C
 {
     match condition_of(alloc, judge(alloc, scope, e)?)? {
         Checked::Untyped(fault) => Ok(Checked::Untyped(fault)),
-        Checked::Typed(c, fault) => Ok(also(fault, fine(c.test))),
+        Checked::Typed(c, fault) => Ok(also(fault, fine(c.out().test.out()))),
     }
 }
 
@@ -143,11 +150,11 @@ fn type_return(
                 return Ok(fine(TStmt::Return(None)));
             }
             let wanted = scope.returned().copy(alloc)?;
-            Ok(Checked::Untyped(TypeFault::Mismatch(place, wanted, CType::Void)))
+            Ok(untyped(TypeFault::Mismatch(place, wanted, CType::Void)))
         }
         Some(e) => match passed(alloc, Some(scope.returned()), judge(alloc, scope, e)?)? {
             Checked::Untyped(fault) => Ok(Checked::Untyped(fault)),
-            Checked::Typed(v, fault) => Ok(also(fault, fine(TStmt::Return(Some(v))))),
+            Checked::Typed(v, fault) => Ok(also(fault, fine(TStmt::Return(Some(v.out()))))),
         },
     }
 }
@@ -162,7 +169,7 @@ fn branches(
     match pair(test, pair(yes, other)) {
         Checked::Untyped(fault) => Checked::Untyped(fault),
         Checked::Typed(all, fault) => {
-            let (test, both) = all;
+            let (test, both) = all.out();
             let (yes, other) = both;
             also(fault, fine(TStmt::If(test, yes, other)))
         }
@@ -180,9 +187,9 @@ fn repeats(
     match pair(test, body) {
         Checked::Untyped(fault) => Ok(Checked::Untyped(fault)),
         Checked::Typed(both, fault) => {
-            let (test, body) = both;
             let mut end = List::new(alloc);
             end.push(TStmt::Break)?;
+            let (test, body) = both.out();
             let mut all = List::new(alloc);
             all.push(TStmt::If(test, body, end))?;
             Ok(also(fault, fine(TStmt::Loop(all))))
