@@ -10,8 +10,6 @@ mod name;
 mod numbers;
 mod shelf;
 mod sink;
-#[cfg(test)]
-mod tests;
 mod text;
 
 pub use ctype::{CType, Field, copy_fields};

@@ -13,6 +13,3 @@ pub use form::{LinkParts, Pair, UnitParts};
 pub use laws::{check_laws, safety_laws};
 pub use report::{Failure, Finding};
 pub use whole::{scratch, try_scratch};
-
-#[cfg(test)]
-mod tests;

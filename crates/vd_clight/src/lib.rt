@@ -6,8 +6,6 @@ mod expression_text;
 mod function_text;
 mod program;
 mod syntax;
-#[cfg(test)]
-mod tests;
 mod typed;
 
 pub use function_text::print;

@@ -11,8 +11,3 @@ mod simple;
 pub use function::read_typed;
 pub use listing::read_names;
 pub use logic::{read_script, read_specification};
-
-#[cfg(test)]
-mod tests;
-#[cfg(test)]
-mod typing_tests;

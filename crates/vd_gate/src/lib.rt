@@ -11,8 +11,6 @@ mod pass;
 mod passes;
 mod steps;
 mod story;
-#[cfg(test)]
-mod tests;
 mod turns;
 mod view;
 

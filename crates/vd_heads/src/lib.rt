@@ -16,6 +16,3 @@ pub use parts::{head_line, head_part, header_lines, is_head, section_word};
 pub use smallest::least;
 pub use table::{Declarations, Space, Spot, Table};
 pub use view::View;
-
-#[cfg(test)]
-mod tests;

@@ -10,6 +10,3 @@ mod twice;
 pub use completeness::{Bodies, first_lack};
 pub use known::first_unknown;
 pub use twice::first_twice;
-
-#[cfg(test)]
-mod tests;

@@ -1,4 +1,3 @@
 pub mod Units
-pub mod Plainness
 pub mod Failing
 pub mod Assembling

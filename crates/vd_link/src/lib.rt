@@ -8,6 +8,3 @@ mod linking;
 
 pub use assembly::program;
 pub use linking::conditions;
-
-#[cfg(test)]
-mod tests;

@@ -15,6 +15,3 @@ pub use laws::outline_laws;
 pub use line::cut_at;
 pub use outline::{Outline, OutlineFault, TextKind, head_of, outline_of};
 pub use section::{Section, SectionKind, find};
-
-#[cfg(test)]
-mod tests;

@@ -2,10 +2,6 @@
 //! on the reader, and nothing that a program needs stands on it.
 #![tactic(auto)]
 
-#[cfg(test)]
-mod reader_tests;
 mod reprint;
-#[cfg(test)]
-mod tests;
 
 pub use reprint::{print_section, reprint_laws};

@@ -9,8 +9,3 @@ mod turns;
 
 pub use entry::Entry;
 pub use schedule::{ScheduleFault, parse_schedule};
-
-#[cfg(test)]
-mod machine_tests;
-#[cfg(test)]
-mod tests;

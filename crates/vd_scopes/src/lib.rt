@@ -8,8 +8,3 @@ mod verdict;
 
 pub use scope::Scopes;
 pub use verdict::{HeadFault, scopes};
-
-#[cfg(test)]
-mod logic_tests;
-#[cfg(test)]
-mod tests;

@@ -5,8 +5,6 @@
 mod kind;
 mod parse;
 mod read;
-#[cfg(test)]
-mod tests;
 mod text;
 
 pub use kind::SectionKind;
