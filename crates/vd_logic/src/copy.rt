@@ -5,7 +5,7 @@ ghost use Rattle.std.specs.Prelude.{◌≡◌, IfOk};
 use crate::assertion::{Assertion, Item, Label, Prop, Spec};
 use crate::term::{Sort, Term, copy_terms};
 use std::alloc::{AllocError, Global};
-use vd_base::{List, Name, copy_fields};
+use vd_base::{List, Name, copy_fields, hold};
 
 impl Prop {
     /// An equal fact.
@@ -14,15 +14,17 @@ impl Prop {
     {
         match self {
             Prop::Rel(rel, a, b) => {
-                let a = a.copy(alloc)?;
-                Ok(Prop::Rel(*rel, a, b.copy(alloc)?))
+                let a = hold(a.copy(alloc)?);
+                let b = b.copy(alloc)?;
+                Ok(Prop::Rel(*rel, a.out(), b))
             }
             Prop::IsInt(a) => Ok(Prop::IsInt(a.copy(alloc)?)),
             Prop::IsPtr(a) => Ok(Prop::IsPtr(a.copy(alloc)?)),
             Prop::Each(l, a, b) => {
-                let l = l.copy(alloc)?;
-                let a = a.copy(alloc)?;
-                Ok(Prop::Each(l, a, b.copy(alloc)?))
+                let l = hold(l.copy(alloc)?);
+                let a = hold(a.copy(alloc)?);
+                let b = b.copy(alloc)?;
+                Ok(Prop::Each(l.out(), a.out(), b))
             }
         }
     }
@@ -46,22 +48,26 @@ impl Item {
     {
         match self {
             Item::Data(s, p, l) => {
-                let s = s.copy(alloc)?;
-                let p = p.copy(alloc)?;
-                Ok(Item::Data(s, p, l.copy(alloc)?))
+                let s = hold(s.copy(alloc)?);
+                let p = hold(p.copy(alloc)?);
+                let l = l.copy(alloc)?;
+                Ok(Item::Data(s.out(), p.out(), l))
             }
             Item::Lock(s, p, l) => {
-                let s = s.copy(alloc)?;
-                let p = p.copy(alloc)?;
-                Ok(Item::Lock(s, p, l.copy(alloc)?))
+                let s = hold(s.copy(alloc)?);
+                let p = hold(p.copy(alloc)?);
+                let l = l.copy(alloc)?;
+                Ok(Item::Lock(s.out(), p.out(), l))
             }
             Item::Holds(p, l) => {
-                let p = p.copy(alloc)?;
-                Ok(Item::Holds(p, l.copy(alloc)?))
+                let p = hold(p.copy(alloc)?);
+                let l = l.copy(alloc)?;
+                Ok(Item::Holds(p.out(), l))
             }
             Item::Token(p, n) => {
-                let p = p.copy(alloc)?;
-                Ok(Item::Token(p, n.copy(alloc)?))
+                let p = hold(p.copy(alloc)?);
+                let n = n.copy(alloc)?;
+                Ok(Item::Token(p.out(), n))
             }
             Item::Pred(l) => Ok(Item::Pred(l.copy(alloc)?)),
         }
@@ -136,18 +142,18 @@ impl Spec {
     pub fn copy(&self, alloc: Global) -> Result<Spec, AllocError>
         ensures { IfOk result (λ copy. copy ≡ self.now) }
     {
-        let ret = self.ret.copy(alloc)?;
+        let ret = hold(self.ret.copy(alloc)?);
         let name = self.name.copy(alloc)?;
         let params = copy_fields(alloc, &self.params)?;
         let with = copy_with(alloc, &self.with)?;
-        let pre = self.pre.copy(alloc)?;
+        let pre = hold(self.pre.copy(alloc)?);
         let post = self.post.copy(alloc)?;
         Ok(Spec {
-            ret,
+            ret: ret.out(),
             name,
             params,
             with,
-            pre,
+            pre: pre.out(),
             post,
         })
     }

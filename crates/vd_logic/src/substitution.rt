@@ -8,7 +8,7 @@ ghost use Rattle.vd_logic.specs.Substitution.{substituted, substituted_assertion
 use crate::assertion::{Assertion, Item, Label, Prop};
 use crate::term::{Sort, Term};
 use std::alloc::{AllocError, Global};
-use vd_base::{List, Name};
+use vd_base::{List, Name, hold};
 
 /// The term for a variable, or the variable where there is none.
 fn term_for(alloc: Global, terms: &List<Term>, number: u32, sort: Sort) -> Result<Term, AllocError>
@@ -55,15 +55,17 @@ fn in_prop(alloc: Global, prop: &Prop, terms: &List<Term>) -> Result<Prop, Alloc
 {
     match prop {
         Prop::Rel(rel, a, b) => {
-            let a = in_term(alloc, a, terms)?;
-            Ok(Prop::Rel(*rel, a, in_term(alloc, b, terms)?))
+            let a = hold(in_term(alloc, a, terms)?);
+            let b = in_term(alloc, b, terms)?;
+            Ok(Prop::Rel(*rel, a.out(), b))
         }
         Prop::IsInt(a) => Ok(Prop::IsInt(in_term(alloc, a, terms)?)),
         Prop::IsPtr(a) => Ok(Prop::IsPtr(in_term(alloc, a, terms)?)),
         Prop::Each(l, a, b) => {
-            let l = in_term(alloc, l, terms)?;
-            let a = in_term(alloc, a, terms)?;
-            Ok(Prop::Each(l, a, in_term(alloc, b, terms)?))
+            let l = hold(in_term(alloc, l, terms)?);
+            let a = hold(in_term(alloc, a, terms)?);
+            let b = in_term(alloc, b, terms)?;
+            Ok(Prop::Each(l.out(), a.out(), b))
         }
     }
 }
@@ -81,22 +83,26 @@ fn in_item(alloc: Global, item: &Item, terms: &List<Term>) -> Result<Item, Alloc
 {
     match item {
         Item::Data(s, p, l) => {
-            let s = in_term(alloc, s, terms)?;
-            let p = in_term(alloc, p, terms)?;
-            Ok(Item::Data(s, p, in_term(alloc, l, terms)?))
+            let s = hold(in_term(alloc, s, terms)?);
+            let p = hold(in_term(alloc, p, terms)?);
+            let l = in_term(alloc, l, terms)?;
+            Ok(Item::Data(s.out(), p.out(), l))
         }
         Item::Lock(s, p, l) => {
-            let s = in_term(alloc, s, terms)?;
-            let p = in_term(alloc, p, terms)?;
-            Ok(Item::Lock(s, p, in_label(alloc, l, terms)?))
+            let s = hold(in_term(alloc, s, terms)?);
+            let p = hold(in_term(alloc, p, terms)?);
+            let l = in_label(alloc, l, terms)?;
+            Ok(Item::Lock(s.out(), p.out(), l))
         }
         Item::Holds(p, l) => {
-            let p = in_term(alloc, p, terms)?;
-            Ok(Item::Holds(p, in_label(alloc, l, terms)?))
+            let p = hold(in_term(alloc, p, terms)?);
+            let l = in_label(alloc, l, terms)?;
+            Ok(Item::Holds(p.out(), l))
         }
         Item::Token(p, n) => {
-            let p = in_term(alloc, p, terms)?;
-            Ok(Item::Token(p, in_term(alloc, n, terms)?))
+            let p = hold(in_term(alloc, p, terms)?);
+            let n = in_term(alloc, n, terms)?;
+            Ok(Item::Token(p.out(), n))
         }
         Item::Pred(l) => Ok(Item::Pred(in_label(alloc, l, terms)?)),
     }
