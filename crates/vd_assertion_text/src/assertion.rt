@@ -11,7 +11,7 @@ use crate::expression::term;
 use crate::fact::props;
 use crate::item::items;
 use std::alloc::Global;
-use vd_base::{List, Name};
+use vd_base::{List, Name, hold};
 use vd_grammar::Stop;
 use vd_logic::{Sort, Term};
 use vd_logic_grammar::{AssertionText, Class, Kind, Tokens, name_of};
@@ -31,9 +31,9 @@ fn more_locals(
         tokens.take(Kind::Comma)?;
         let name = tokens.name()?;
         tokens.take(Kind::Equal)?;
-        let value = term(alloc, tokens)?;
+        let value = hold(term(alloc, tokens)?);
         let name = name_of(alloc, name)?;
-        found.push((name, value))?;
+        found.push((name, value.out()))?;
     }
     tokens.take(Kind::RightParen)?;
     Ok(found)
@@ -46,10 +46,10 @@ fn first_local(alloc: Global, tokens: &mut Tokens<'_>) -> Result<List<(Name, Ter
 {
     let name = tokens.name()?;
     tokens.take(Kind::Equal)?;
-    let value = term(alloc, tokens)?;
+    let value = hold(term(alloc, tokens)?);
     let name = name_of(alloc, name)?;
     let mut found = List::new(alloc);
-    found.push((name, value))?;
+    found.push((name, value.out()))?;
     more_locals(alloc, tokens, found)
 }
 

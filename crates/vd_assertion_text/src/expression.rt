@@ -8,7 +8,7 @@ ghost use Rattle.vd_logic_grammar.specs.Read.{read, read_rule};
 
 use crate::made::{multiplied, one, summed, summing_of, three, two};
 use std::alloc::Global;
-use vd_base::List;
+use vd_base::{List, hold};
 use vd_grammar::Stop;
 use vd_logic::{Op, Term};
 use vd_logic_grammar::{Class, Kind, Tokens, name_of};
@@ -35,9 +35,9 @@ fn brackets(alloc: Global, tokens: &mut Tokens<'_>) -> Result<Term, Stop>
     ensures no_longer { length tokens.new ≤ length tokens.old }
 {
     tokens.take(Kind::LeftParen)?;
-    let inner = term(alloc, tokens)?;
+    let inner = hold(term(alloc, tokens)?);
     tokens.take(Kind::RightParen)?;
-    Ok(inner)
+    Ok(inner.out())
 }
 
 fn constant(alloc: Global, tokens: &mut Tokens<'_>) -> Result<Term, Stop>
@@ -55,7 +55,7 @@ fn one_argument(alloc: Global, tokens: &mut Tokens<'_>) -> Result<Term, Stop>
 {
     let word = tokens.take(Kind::OneArgument)?;
     tokens.take(Kind::LeftParen)?;
-    let a = term(alloc, tokens)?;
+    let a = hold(term(alloc, tokens)?);
     tokens.take(Kind::RightParen)?;
     Ok(one(alloc, word.op, a)?)
 }
@@ -67,9 +67,9 @@ fn two_arguments(alloc: Global, tokens: &mut Tokens<'_>) -> Result<Term, Stop>
 {
     let word = tokens.take(Kind::TwoArguments)?;
     tokens.take(Kind::LeftParen)?;
-    let a = term(alloc, tokens)?;
+    let a = hold(term(alloc, tokens)?);
     tokens.take(Kind::Comma)?;
-    let b = term(alloc, tokens)?;
+    let b = hold(term(alloc, tokens)?);
     tokens.take(Kind::RightParen)?;
     Ok(two(alloc, word.op, a, b)?)
 }
@@ -81,11 +81,11 @@ fn three_arguments(alloc: Global, tokens: &mut Tokens<'_>) -> Result<Term, Stop>
 {
     let word = tokens.take(Kind::ThreeArguments)?;
     tokens.take(Kind::LeftParen)?;
-    let a = term(alloc, tokens)?;
+    let a = hold(term(alloc, tokens)?);
     tokens.take(Kind::Comma)?;
-    let b = term(alloc, tokens)?;
+    let b = hold(term(alloc, tokens)?);
     tokens.take(Kind::Comma)?;
-    let third = term(alloc, tokens)?;
+    let third = hold(term(alloc, tokens)?);
     tokens.take(Kind::RightParen)?;
     Ok(three(alloc, word.op, a, b, third)?)
 }
@@ -107,8 +107,8 @@ fn element_list(alloc: Global, tokens: &mut Tokens<'_>) -> Result<Term, Stop>
     ensures no_longer { length tokens.new ≤ length tokens.old }
 {
     tokens.take(Kind::LeftBracket)?;
-    let head = term(alloc, tokens)?;
-    let tail = elements(alloc, tokens)?;
+    let head = hold(term(alloc, tokens)?);
+    let tail = hold(elements(alloc, tokens)?);
     Ok(two(alloc, Op::Cons, head, tail)?)
 }
 
@@ -118,8 +118,8 @@ fn next_element(alloc: Global, tokens: &mut Tokens<'_>) -> Result<Term, Stop>
     ensures no_longer { length tokens.new ≤ length tokens.old }
 {
     tokens.take(Kind::Comma)?;
-    let head = term(alloc, tokens)?;
-    let tail = elements(alloc, tokens)?;
+    let head = hold(term(alloc, tokens)?);
+    let tail = hold(elements(alloc, tokens)?);
     Ok(two(alloc, Op::Cons, head, tail)?)
 }
 
@@ -193,7 +193,7 @@ fn product(alloc: Global, tokens: &mut Tokens<'_>) -> Result<Term, Stop>
     ensures reads { Reads (read Phrase.Product tokens.old) result tokens.new }
     ensures no_longer { length tokens.new ≤ length tokens.old }
 {
-    let first = factor(alloc, tokens)?;
+    let first = hold(factor(alloc, tokens)?);
     let others = factors(alloc, tokens)?;
     Ok(multiplied(alloc, first, others)?)
 }
@@ -221,7 +221,7 @@ pub fn term(alloc: Global, tokens: &mut Tokens<'_>) -> Result<Term, Stop>
     ensures reads { Reads (read Phrase.Term_ tokens.old) result tokens.new }
     ensures no_longer { length tokens.new ≤ length tokens.old }
 {
-    let first = product(alloc, tokens)?;
+    let first = hold(product(alloc, tokens)?);
     let others = sums(alloc, tokens)?;
     Ok(summed(alloc, first, others)?)
 }

@@ -9,7 +9,7 @@ ghost use Rattle.vd_logic_grammar.specs.Read.{read, read_rule};
 use crate::expression::term;
 use crate::made::relation_of;
 use std::alloc::Global;
-use vd_base::List;
+use vd_base::{List, hold};
 use vd_grammar::Stop;
 use vd_logic::Prop;
 use vd_logic_grammar::{Class, Kind, Tokens};
@@ -20,9 +20,9 @@ fn integer(alloc: Global, tokens: &mut Tokens<'_>) -> Result<Prop, Stop>
 {
     tokens.take(Kind::IsInt)?;
     tokens.take(Kind::LeftParen)?;
-    let a = term(alloc, tokens)?;
+    let a = hold(term(alloc, tokens)?);
     tokens.take(Kind::RightParen)?;
-    Ok(Prop::IsInt(a))
+    Ok(Prop::IsInt(a.out()))
 }
 
 fn pointer(alloc: Global, tokens: &mut Tokens<'_>) -> Result<Prop, Stop>
@@ -31,9 +31,9 @@ fn pointer(alloc: Global, tokens: &mut Tokens<'_>) -> Result<Prop, Stop>
 {
     tokens.take(Kind::IsPtr)?;
     tokens.take(Kind::LeftParen)?;
-    let a = term(alloc, tokens)?;
+    let a = hold(term(alloc, tokens)?);
     tokens.take(Kind::RightParen)?;
-    Ok(Prop::IsPtr(a))
+    Ok(Prop::IsPtr(a.out()))
 }
 
 fn each(alloc: Global, tokens: &mut Tokens<'_>) -> Result<Prop, Stop>
@@ -42,23 +42,23 @@ fn each(alloc: Global, tokens: &mut Tokens<'_>) -> Result<Prop, Stop>
 {
     tokens.take(Kind::Each)?;
     tokens.take(Kind::LeftParen)?;
-    let l = term(alloc, tokens)?;
+    let l = hold(term(alloc, tokens)?);
     tokens.take(Kind::Comma)?;
-    let a = term(alloc, tokens)?;
+    let a = hold(term(alloc, tokens)?);
     tokens.take(Kind::Comma)?;
-    let b = term(alloc, tokens)?;
+    let b = hold(term(alloc, tokens)?);
     tokens.take(Kind::RightParen)?;
-    Ok(Prop::Each(l, a, b))
+    Ok(Prop::Each(l.out(), a.out(), b.out()))
 }
 
 fn relation(alloc: Global, tokens: &mut Tokens<'_>) -> Result<Prop, Stop>
     ensures reads { Reads (read_rule Rule.relation tokens.old) result tokens.new }
     ensures no_longer { length tokens.new ≤ length tokens.old }
 {
-    let a = term(alloc, tokens)?;
+    let a = hold(term(alloc, tokens)?);
     let sign = tokens.expect(Class::Relation)?;
     let b = term(alloc, tokens)?;
-    Ok(Prop::Rel(relation_of(sign.kind), a, b))
+    Ok(Prop::Rel(relation_of(sign.kind), a.out(), b))
 }
 
 /// A fact.

@@ -9,7 +9,7 @@ ghost use Rattle.vd_logic_grammar.specs.Read.{read, read_rule};
 use crate::arguments::label;
 use crate::expression::term;
 use std::alloc::Global;
-use vd_base::List;
+use vd_base::{List, hold};
 use vd_grammar::Stop;
 use vd_logic::Item;
 use vd_logic_grammar::{Class, Kind, Tokens};
@@ -20,13 +20,13 @@ fn data(alloc: Global, tokens: &mut Tokens<'_>) -> Result<Item, Stop>
 {
     tokens.take(Kind::Data)?;
     tokens.take(Kind::LeftParen)?;
-    let s = term(alloc, tokens)?;
+    let s = hold(term(alloc, tokens)?);
     tokens.take(Kind::Comma)?;
-    let p = term(alloc, tokens)?;
+    let p = hold(term(alloc, tokens)?);
     tokens.take(Kind::Comma)?;
-    let l = term(alloc, tokens)?;
+    let l = hold(term(alloc, tokens)?);
     tokens.take(Kind::RightParen)?;
-    Ok(Item::Data(s, p, l))
+    Ok(Item::Data(s.out(), p.out(), l.out()))
 }
 
 fn lock(alloc: Global, tokens: &mut Tokens<'_>) -> Result<Item, Stop>
@@ -35,13 +35,13 @@ fn lock(alloc: Global, tokens: &mut Tokens<'_>) -> Result<Item, Stop>
 {
     tokens.take(Kind::Lock)?;
     tokens.take(Kind::LeftParen)?;
-    let s = term(alloc, tokens)?;
+    let s = hold(term(alloc, tokens)?);
     tokens.take(Kind::Comma)?;
-    let p = term(alloc, tokens)?;
+    let p = hold(term(alloc, tokens)?);
     tokens.take(Kind::Comma)?;
-    let invariant = label(alloc, tokens)?;
+    let invariant = hold(label(alloc, tokens)?);
     tokens.take(Kind::RightParen)?;
-    Ok(Item::Lock(s, p, invariant))
+    Ok(Item::Lock(s.out(), p.out(), invariant.out()))
 }
 
 fn holds(alloc: Global, tokens: &mut Tokens<'_>) -> Result<Item, Stop>
@@ -50,11 +50,11 @@ fn holds(alloc: Global, tokens: &mut Tokens<'_>) -> Result<Item, Stop>
 {
     tokens.take(Kind::Holds)?;
     tokens.take(Kind::LeftParen)?;
-    let p = term(alloc, tokens)?;
+    let p = hold(term(alloc, tokens)?);
     tokens.take(Kind::Comma)?;
-    let invariant = label(alloc, tokens)?;
+    let invariant = hold(label(alloc, tokens)?);
     tokens.take(Kind::RightParen)?;
-    Ok(Item::Holds(p, invariant))
+    Ok(Item::Holds(p.out(), invariant.out()))
 }
 
 fn token_item(alloc: Global, tokens: &mut Tokens<'_>) -> Result<Item, Stop>
@@ -63,11 +63,11 @@ fn token_item(alloc: Global, tokens: &mut Tokens<'_>) -> Result<Item, Stop>
 {
     tokens.take(Kind::TokenWord)?;
     tokens.take(Kind::LeftParen)?;
-    let p = term(alloc, tokens)?;
+    let p = hold(term(alloc, tokens)?);
     tokens.take(Kind::Comma)?;
-    let n = term(alloc, tokens)?;
+    let n = hold(term(alloc, tokens)?);
     tokens.take(Kind::RightParen)?;
-    Ok(Item::Token(p, n))
+    Ok(Item::Token(p.out(), n.out()))
 }
 
 fn predicate(alloc: Global, tokens: &mut Tokens<'_>) -> Result<Item, Stop>

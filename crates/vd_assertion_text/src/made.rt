@@ -5,26 +5,26 @@ ghost use Rattle.vd_logic.specs.declared.term.Term.{App};
 ghost use Rattle.vd_logic_grammar.specs.Syntax as syntax;
 
 use std::alloc::{AllocError, Global};
-use vd_base::{CType, List};
+use vd_base::{CType, Held, List, hold};
 use vd_logic::{Op, Rel, Sort, Term};
 use vd_logic_grammar::Kind;
 
 /// An operation of one term.
-pub(crate) fn one(alloc: Global, op: Op, a: Term) -> Result<Term, AllocError>
+pub(crate) fn one(alloc: Global, op: Op, a: Held<Term>) -> Result<Term, AllocError>
     ensures { IfOk result (λ t. t ≡ App op (a ∷ [])) }
 {
     let mut args = List::new(alloc);
-    args.push(a)?;
+    args.push(a.out())?;
     Ok(Term::App(op, args))
 }
 
 /// An operation of two terms.
-pub(crate) fn two(alloc: Global, op: Op, a: Term, b: Term) -> Result<Term, AllocError>
+pub(crate) fn two(alloc: Global, op: Op, a: Held<Term>, b: Held<Term>) -> Result<Term, AllocError>
     ensures { IfOk result (λ t. t ≡ App op (a ∷ b ∷ [])) }
 {
     let mut args = List::new(alloc);
-    args.push(a)?;
-    args.push(b)?;
+    args.push(a.out())?;
+    args.push(b.out())?;
     Ok(Term::App(op, args))
 }
 
@@ -32,23 +32,23 @@ pub(crate) fn two(alloc: Global, op: Op, a: Term, b: Term) -> Result<Term, Alloc
 pub(crate) fn three(
     alloc: Global,
     op: Op,
-    a: Term,
-    b: Term,
-    third: Term,
+    a: Held<Term>,
+    b: Held<Term>,
+    third: Held<Term>,
 ) -> Result<Term, AllocError>
     ensures { IfOk result (λ t. t ≡ App op (a ∷ b ∷ third ∷ [])) }
 {
     let mut args = List::new(alloc);
-    args.push(a)?;
-    args.push(b)?;
-    args.push(third)?;
+    args.push(a.out())?;
+    args.push(b.out())?;
+    args.push(third.out())?;
     Ok(Term::App(op, args))
 }
 
 /// A product, and what is added to it or taken from it, from left to right.
 pub(crate) fn summed(
     alloc: Global,
-    first: Term,
+    first: Held<Term>,
     others: List<(Op, Term)>,
 ) -> Result<Term, AllocError>
     ensures { IfOk result (λ t. t ≡ syntax.summed first others) }
@@ -56,20 +56,24 @@ pub(crate) fn summed(
     let mut found = first;
     'others: for other in others.into_vec() {
         let (op, term) = other;
-        found = two(alloc, op, found, term)?;
+        found = hold(two(alloc, op, found, hold(term))?);
     }
-    Ok(found)
+    Ok(found.out())
 }
 
 /// A factor, and the factors behind it, from left to right.
-pub(crate) fn multiplied(alloc: Global, first: Term, others: List<Term>) -> Result<Term, AllocError>
+pub(crate) fn multiplied(
+    alloc: Global,
+    first: Held<Term>,
+    others: List<Term>,
+) -> Result<Term, AllocError>
     ensures { IfOk result (λ t. t ≡ syntax.multiplied first others) }
 {
     let mut found = first;
     'others: for other in others.into_vec() {
-        found = two(alloc, Op::Mul, found, other)?;
+        found = hold(two(alloc, Op::Mul, found, hold(other))?);
     }
-    Ok(found)
+    Ok(found.out())
 }
 
 /// `+` or `-`.

@@ -8,7 +8,7 @@ ghost use Rattle.vd_assertion_text.specs.Lookup.{variable_in};
 
 use crate::variables::Variables;
 use std::alloc::{AllocError, Global};
-use vd_base::{List, Name, NameFault};
+use vd_base::{List, Name, NameFault, hold};
 use vd_logic::{Assertion, Item, Label, Prop, Sort, Term};
 use vd_logic_grammar::AssertionText;
 
@@ -57,15 +57,17 @@ fn in_prop(alloc: Global, variables: &Variables<'_>, prop: &Prop) -> Result<Prop
 {
     match prop {
         Prop::Rel(rel, a, b) => {
-            let a = in_term(alloc, variables, a)?;
-            Ok(Prop::Rel(*rel, a, in_term(alloc, variables, b)?))
+            let a = hold(in_term(alloc, variables, a)?);
+            let b = in_term(alloc, variables, b)?;
+            Ok(Prop::Rel(*rel, a.out(), b))
         }
         Prop::IsInt(a) => Ok(Prop::IsInt(in_term(alloc, variables, a)?)),
         Prop::IsPtr(a) => Ok(Prop::IsPtr(in_term(alloc, variables, a)?)),
         Prop::Each(l, a, b) => {
-            let l = in_term(alloc, variables, l)?;
-            let a = in_term(alloc, variables, a)?;
-            Ok(Prop::Each(l, a, in_term(alloc, variables, b)?))
+            let l = hold(in_term(alloc, variables, l)?);
+            let a = hold(in_term(alloc, variables, a)?);
+            let b = in_term(alloc, variables, b)?;
+            Ok(Prop::Each(l.out(), a.out(), b))
         }
     }
 }
@@ -83,22 +85,26 @@ fn in_item(alloc: Global, variables: &Variables<'_>, item: &Item) -> Result<Item
 {
     match item {
         Item::Data(s, p, l) => {
-            let s = in_term(alloc, variables, s)?;
-            let p = in_term(alloc, variables, p)?;
-            Ok(Item::Data(s, p, in_term(alloc, variables, l)?))
+            let s = hold(in_term(alloc, variables, s)?);
+            let p = hold(in_term(alloc, variables, p)?);
+            let l = in_term(alloc, variables, l)?;
+            Ok(Item::Data(s.out(), p.out(), l))
         }
         Item::Lock(s, p, l) => {
-            let s = in_term(alloc, variables, s)?;
-            let p = in_term(alloc, variables, p)?;
-            Ok(Item::Lock(s, p, in_label(alloc, variables, l)?))
+            let s = hold(in_term(alloc, variables, s)?);
+            let p = hold(in_term(alloc, variables, p)?);
+            let l = in_label(alloc, variables, l)?;
+            Ok(Item::Lock(s.out(), p.out(), l))
         }
         Item::Holds(p, l) => {
-            let p = in_term(alloc, variables, p)?;
-            Ok(Item::Holds(p, in_label(alloc, variables, l)?))
+            let p = hold(in_term(alloc, variables, p)?);
+            let l = in_label(alloc, variables, l)?;
+            Ok(Item::Holds(p.out(), l))
         }
         Item::Token(p, n) => {
-            let p = in_term(alloc, variables, p)?;
-            Ok(Item::Token(p, in_term(alloc, variables, n)?))
+            let p = hold(in_term(alloc, variables, p)?);
+            let n = in_term(alloc, variables, n)?;
+            Ok(Item::Token(p.out(), n))
         }
         Item::Pred(l) => Ok(Item::Pred(in_label(alloc, variables, l)?)),
     }

@@ -8,7 +8,7 @@ ghost use Rattle.vd_logic_grammar.specs.Read.{read, read_rule};
 
 use crate::types::{ctype, filled, void_type};
 use std::alloc::Global;
-use vd_base::{Field, List};
+use vd_base::{Field, List, hold};
 use vd_grammar::Stop;
 use vd_logic_grammar::{Class, Kind, Tokens, name_of};
 
@@ -25,10 +25,13 @@ fn more_parameters(
     let mut found = first;
     'found: while !tokens.sees(Class::One(Kind::RightParen)) {
         tokens.take(Kind::Comma)?;
-        let typ = ctype(alloc, tokens)?;
+        let typ = hold(ctype(alloc, tokens)?);
         let name = tokens.plain_name()?;
         let name = name_of(alloc, name)?;
-        found.push(Field { name, typ })?;
+        found.push(Field {
+            name,
+            typ: typ.out(),
+        })?;
     }
     tokens.take(Kind::RightParen)?;
     Ok(found)
@@ -39,11 +42,14 @@ fn void_parameter(alloc: Global, tokens: &mut Tokens<'_>) -> Result<List<Field>,
     ensures reads { Reads (read_rule Rule.void_parameter tokens.old) result tokens.new }
     ensures no_longer { length tokens.new ≤ length tokens.old }
 {
-    let typ = void_type(alloc, tokens)?;
+    let typ = hold(void_type(alloc, tokens)?);
     let name = tokens.plain_name()?;
     let name = name_of(alloc, name)?;
     let mut found = List::new(alloc);
-    found.push(Field { name, typ })?;
+    found.push(Field {
+        name,
+        typ: typ.out(),
+    })?;
     more_parameters(alloc, tokens, found)
 }
 
@@ -74,11 +80,14 @@ fn filled_first(alloc: Global, tokens: &mut Tokens<'_>) -> Result<List<Field>, S
     ensures reads { Reads (read_rule Rule.filled_first tokens.old) result tokens.new }
     ensures no_longer { length tokens.new ≤ length tokens.old }
 {
-    let typ = filled(alloc, tokens)?;
+    let typ = hold(filled(alloc, tokens)?);
     let name = tokens.plain_name()?;
     let name = name_of(alloc, name)?;
     let mut found = List::new(alloc);
-    found.push(Field { name, typ })?;
+    found.push(Field {
+        name,
+        typ: typ.out(),
+    })?;
     more_parameters(alloc, tokens, found)
 }
 

@@ -13,7 +13,7 @@ use crate::numbering::{hides, numbered, sorts_of, with_result};
 use crate::parameters::parameters;
 use crate::types::ctype;
 use std::alloc::{AllocError, Global};
-use vd_base::{List, Name};
+use vd_base::{List, Name, hold};
 use vd_clight::Signature;
 use vd_grammar::Stop;
 use vd_logic::{Assertion, Sort, Spec};
@@ -117,12 +117,16 @@ fn signature(alloc: Global, tokens: &mut Tokens<'_>) -> Result<Signature, Stop>
     ensures reads { Reads (read Phrase.Signature_ tokens.old) result tokens.new }
     ensures no_longer { length tokens.new ≤ length tokens.old }
 {
-    let ret = ctype(alloc, tokens)?;
+    let ret = hold(ctype(alloc, tokens)?);
     let name = tokens.own_name()?;
     tokens.take(Kind::LeftParen)?;
     let params = parameters(alloc, tokens)?;
     let name = name_of(alloc, name)?;
-    Ok(Signature { ret, name, params })
+    Ok(Signature {
+        ret: ret.out(),
+        name,
+        params,
+    })
 }
 
 fn some_names(alloc: Global, tokens: &mut Tokens<'_>) -> Result<List<(Name, Sort)>, Stop>

@@ -8,7 +8,7 @@ ghost use Rattle.vd_assertion_text.specs.Tails.{reads_pointers};
 
 use crate::made::simple_of;
 use std::alloc::Global;
-use vd_base::{Boxed, CType};
+use vd_base::{Boxed, CType, hold};
 use vd_grammar::Stop;
 use vd_logic_grammar::{Class, Kind, Tokens, name_of};
 
@@ -18,12 +18,12 @@ fn pointers(alloc: Global, tokens: &mut Tokens<'_>, base: CType) -> Result<CType
     ensures reads { Reads (reads_pointers base (read Phrase.Stars tokens.old)) result tokens.new }
     ensures no_longer { length tokens.new ≤ length tokens.old }
 {
-    let mut found = base;
+    let mut found = hold(base);
     'stars: while tokens.sees(Class::One(Kind::Star)) {
         tokens.take(Kind::Star)?;
-        found = CType::Pointer(Boxed::new(alloc, found)?);
+        found = hold(CType::Pointer(Boxed::new(alloc, found.out())?));
     }
-    Ok(found)
+    Ok(found.out())
 }
 
 fn simple_type(alloc: Global, tokens: &mut Tokens<'_>) -> Result<CType, Stop>
