@@ -9,6 +9,7 @@ use crate::certificate::by;
 use crate::parts::{as_names, at};
 use std::alloc::Global;
 use vd_assertion_text::{label, terms};
+use vd_base::hold;
 use vd_grammar::Stop;
 use vd_logic::StepNode;
 use vd_logic_grammar::{Kind, Tokens};
@@ -48,11 +49,11 @@ pub(crate) fn make_lock(alloc: Global, tokens: &mut Tokens<'_>) -> Result<StepNo
 {
     tokens.take(Kind::MakeLock)?;
     let first = tokens.index()?;
-    let invariant = label(alloc, tokens)?;
+    let invariant = hold(label(alloc, tokens)?);
     let items = at(alloc, tokens)?;
     let proofs = by(alloc, tokens)?;
     tokens.take(Kind::Semicolon)?;
-    Ok(StepNode::MakeLock(first.value as u32, invariant, items, proofs))
+    Ok(StepNode::MakeLock(first.value as u32, invariant.out(), items, proofs))
 }
 
 pub(crate) fn acquire(alloc: Global, tokens: &mut Tokens<'_>) -> Result<StepNode, Stop>

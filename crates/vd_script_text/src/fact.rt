@@ -9,6 +9,7 @@ use crate::certificate::by;
 use crate::parts::{back, occurrence};
 use std::alloc::Global;
 use vd_assertion_text::{prop, terms};
+use vd_base::hold;
 use vd_grammar::Stop;
 use vd_logic::StepNode;
 use vd_logic_grammar::{Kind, Tokens, name_of};
@@ -48,10 +49,10 @@ pub(crate) fn have(alloc: Global, tokens: &mut Tokens<'_>) -> Result<StepNode, S
     ensures shorter { OnOk result (length tokens.new < length tokens.old) }
 {
     tokens.take(Kind::Have)?;
-    let fact = prop(alloc, tokens)?;
+    let fact = hold(prop(alloc, tokens)?);
     let proofs = by(alloc, tokens)?;
     tokens.take(Kind::Semicolon)?;
-    Ok(StepNode::Have(fact, proofs))
+    Ok(StepNode::Have(fact.out(), proofs))
 }
 
 pub(crate) fn law(alloc: Global, tokens: &mut Tokens<'_>) -> Result<StepNode, Stop>
@@ -87,7 +88,7 @@ pub(crate) fn rewrite(alloc: Global, tokens: &mut Tokens<'_>) -> Result<StepNode
     tokens.take(Kind::Rewrite)?;
     let backwards = back(tokens)?;
     let first = tokens.index()?;
-    let place = occurrence(alloc, tokens)?;
+    let place = hold(occurrence(alloc, tokens)?);
     tokens.take(Kind::Semicolon)?;
-    Ok(StepNode::Rewrite(backwards, first.value as u32, place))
+    Ok(StepNode::Rewrite(backwards, first.value as u32, place.out()))
 }

@@ -9,6 +9,7 @@ use crate::certificate::by;
 use crate::parts::{forgotten, second};
 use std::alloc::Global;
 use vd_assertion_text::{term, terms};
+use vd_base::hold;
 use vd_grammar::Stop;
 use vd_logic::StepNode;
 use vd_logic_grammar::{Class, Kind, Tokens, name_of};
@@ -21,12 +22,12 @@ pub(crate) fn cut(alloc: Global, tokens: &mut Tokens<'_>) -> Result<StepNode, St
     tokens.take(Kind::Cut)?;
     let first = tokens.index()?;
     tokens.take(Kind::LeftParen)?;
-    let a = term(alloc, tokens)?;
+    let a = hold(term(alloc, tokens)?);
     tokens.take(Kind::Comma)?;
-    let b = term(alloc, tokens)?;
+    let b = hold(term(alloc, tokens)?);
     tokens.take(Kind::RightParen)?;
     tokens.take(Kind::Semicolon)?;
-    Ok(StepNode::Cut(first.value as u32, a, b))
+    Ok(StepNode::Cut(first.value as u32, a.out(), b.out()))
 }
 
 pub(crate) fn glue(tokens: &mut Tokens<'_>) -> Result<StepNode, Stop>
@@ -48,10 +49,10 @@ pub(crate) fn share(alloc: Global, tokens: &mut Tokens<'_>) -> Result<StepNode, 
 {
     tokens.take(Kind::Share)?;
     let first = tokens.index()?;
-    let part = term(alloc, tokens)?;
+    let part = hold(term(alloc, tokens)?);
     let proofs = by(alloc, tokens)?;
     tokens.take(Kind::Semicolon)?;
-    Ok(StepNode::Share(first.value as u32, part, proofs))
+    Ok(StepNode::Share(first.value as u32, part.out(), proofs))
 }
 
 pub(crate) fn unshare(alloc: Global, tokens: &mut Tokens<'_>) -> Result<StepNode, Stop>
@@ -112,9 +113,9 @@ pub(crate) fn forget(alloc: Global, tokens: &mut Tokens<'_>) -> Result<StepNode,
     ensures shorter { OnOk result (length tokens.new < length tokens.old) }
 {
     tokens.take(Kind::Forget)?;
-    let what = forgotten(alloc, tokens)?;
+    let what = hold(forgotten(alloc, tokens)?);
     tokens.take(Kind::Semicolon)?;
-    Ok(StepNode::Forget(what))
+    Ok(StepNode::Forget(what.out()))
 }
 
 pub(crate) fn meet(alloc: Global, tokens: &mut Tokens<'_>) -> Result<StepNode, Stop>
@@ -138,7 +139,7 @@ pub(crate) fn name(alloc: Global, tokens: &mut Tokens<'_>) -> Result<StepNode, S
     tokens.take(Kind::NameWord)?;
     let name = tokens.name()?;
     tokens.take(Kind::Equal)?;
-    let value = term(alloc, tokens)?;
+    let value = hold(term(alloc, tokens)?);
     tokens.take(Kind::Semicolon)?;
-    Ok(StepNode::Name(name_of(alloc, name)?, value))
+    Ok(StepNode::Name(name_of(alloc, name)?, value.out()))
 }
