@@ -1,6 +1,6 @@
 -- After a turn only the threads that it changed have to be looked at.
-use Rattle.std.proofs.Common.{◌≡◌, ℕ, ◌+◌, ◌<◌, ◌≤◌, Bool, true, false, ◌||◌, List, length, Option, Some, None, refl, sym, ◌∙◌, ap, ap₂, subst, arith, ◌⊎◌, inl, inr}
-use Rattle.std.specs.Prelude.{is_some, ◌==◌}
+use Rattle.std.proofs.Common.{◌≡◌, ℕ, ◌<◌, ◌≤◌, Bool, true, false, ◌||◌, List, length, Option, Some, None, refl, sym, ◌∙◌, ap, subst, arith, ◌⊎◌, inl, inr}
+use Rattle.std.specs.Prelude.{◌==◌}
 use Rattle.std.proofs.lemmas.Bool.{and_parts, or_cases, or_parts, eqb-true, leb-false, cases_eq, cases_lt, false≢true}
 use Rattle.vd_clight.specs.declared.program.GlobalDef.{GlobalDef}
 use Rattle.vd_clight.specs.declared.program.Program.{Program}

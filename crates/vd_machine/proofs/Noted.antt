@@ -1,12 +1,11 @@
 -- Lists of touches with one changed or added, and the sets that hold their places.
-use Rattle.std.proofs.Common.{◌≡◌, ℕ, zero, suc, ◌+◌, ◌<◌, ◌≤◌, Bool, true, false, cond, not, ◌&&◌, ◌||◌, List, [], ◌∷◌, ◌++◌, length, slice_set, Option, Some, None, refl, sym, ◌∙◌, ap, ap₂, subst, arith, length-append, ◌⊎◌, inl, inr}
-use Rattle.std.specs.Prelude.{◌==◌, max, slice_get}
+use Rattle.std.proofs.Common.{◌≡◌, ℕ, zero, suc, ◌+◌, ◌<◌, ◌≤◌, Bool, true, false, cond, not, ◌&&◌, ◌||◌, List, [], ◌∷◌, ◌++◌, length, slice_set, Some, None, refl, sym, ◌∙◌, ap, ap₂, arith, length-append, ◌⊎◌, inl, inr}
+use Rattle.std.specs.Prelude.{◌==◌, slice_get}
 use Rattle.std.specs.Option.{unwrap_or}
 use Rattle.std.specs.BTreeSet.{BTreeSet}
-use Rattle.std.proofs.lemmas.Bool.{eqb-true, eqb-false, eq-eqb, ne_eqb, cases_order, cases_eq, cases_Bool, false≢true}
+use Rattle.std.proofs.lemmas.Bool.{eqb-true, eq-eqb, ne_eqb, cases_order, cases_eq, cases_Bool}
 use Rattle.std.proofs.lemmas.List.{length-set}
 use Rattle.vd_machine.specs.declared.touch.Touched.{Touched}
-use Rattle.vd_machine.specs.declared.watch.Watch.{Watch}
 use Rattle.vd_machine.specs.Touches.{nothing}
 use Rattle.vd_machine.specs.Watching.{Place, has, Two, is_either, touch_in, IsNoted, Holds}
 use Rattle.vd_machine.proofs.Rivals.{absent}

@@ -1,27 +1,22 @@
 -- What an index shows of races.
-use Rattle.std.proofs.Common.{◌≡◌, ℕ, zero, suc, ◌+◌, ◌<◌, ◌≤◌, Bool, true, false, cond, ◌&&◌, ◌||◌, List, [], ◌∷◌, length, Option, Some, None, refl, sym, ◌∙◌, ap, ap₂, subst, arith, ◌⊎◌, inl, inr}
-use Rattle.std.specs.Prelude.{◌==◌, max, IsSome, is_some, slice_get}
-use Rattle.std.proofs.lemmas.Bool.{and_parts, and_from, or_cases, or_left, or_right, eqb-true, eqb-false, eq-eqb, ne_eqb, cases_eq, cases_lt, cases_Bool, false≢true}
+use Rattle.std.proofs.Common.{◌≡◌, ℕ, ◌<◌, ◌≤◌, Bool, true, false, cond, ◌||◌, List, [], length, Option, Some, None, refl, sym, ◌∙◌, ap, ap₂, subst, arith, ◌⊎◌, inl, inr}
+use Rattle.std.specs.Prelude.{◌==◌, IsSome, is_some, slice_get}
+use Rattle.std.proofs.lemmas.Bool.{and_parts, and_from, or_cases, or_left, or_right, eqb-true, eq-eqb, ne_eqb, cases_eq, cases_lt, cases_Bool, false≢true}
 use Rattle.vd_clight.specs.declared.program.GlobalDef.{GlobalDef}
-use Rattle.vd_clight.specs.declared.program.Program.{Program}
 use Rattle.vd_mem.specs.Memory.{Block, cell_at}
 use Rattle.vd_machine.specs.declared.answer.Spot.{Spot}
 use Rattle.vd_machine.specs.declared.frame.Thread.{Thread as KeptThread}
 use Rattle.vd_machine.specs.declared.touch.Touched.{Touched}
 use Rattle.vd_machine.specs.declared.watch.Watch.{Watch}
-use Rattle.vd_machine.specs.Race.{Races}
 use Rattle.vd_machine.specs.Rivals.{touch_at}
-use Rattle.vd_machine.specs.Run.{Next, turn}
 use Rattle.vd_machine.specs.Thread.{System}
 use Rattle.vd_machine.specs.Touches.{nothing, thread_touch, is_at, is_in, block_of, covers, meet_at, Clashes}
 use Rattle.vd_machine.specs.Turns.{system_of}
-use Rattle.vd_machine.specs.Watching.{reaches, live_spot, block_if, live_block, live, has, Two, is_either, spots, looks, writes, start_at, starts, touch_in, IsNoted, IsIndex, IsWith, Meets, Enters, Joins, Watches, Follows, IsCalm, Followed}
-use Rattle.vd_machine.proofs.Calm.{beyond, swapped, calm_after}
+use Rattle.vd_machine.specs.Watching.{reaches, live_spot, block_if, live_block, live, has, is_either, spots, looks, writes, start_at, starts, touch_in, IsIndex, IsWith, Meets, Enters, Joins, Watches}
+use Rattle.vd_machine.proofs.Calm.{beyond}
 use Rattle.vd_machine.proofs.Clashes.{first_of_block}
-use Rattle.vd_machine.proofs.Growth.{turn_keeps}
 use Rattle.vd_machine.proofs.Noted.{none_in}
 use Rattle.vd_machine.proofs.Rivals.{absent}
-use Rattle.vd_machine.proofs.Spawning.{turn_others, turn_threads, threads_stay}
 
 -- the look at the places that some thread writes or looks at
 pub spots_apart :

@@ -1,5 +1,5 @@
 -- An index of what the threads' next statements touch: the touches by thread, and each place with its threads.
-use Rattle.std.specs.Prelude.{◌≡◌, ℕ, ◌+◌, ◌<◌, ◌≤◌, nat_le, max, Bool, true, false, cond, ◌&&◌, ◌||◌, ◌==◌, List, length, slice_get, is_some, Option, None, Some, IsSome, ◌⊎◌}
+use Rattle.std.specs.Prelude.{◌≡◌, ℕ, ◌+◌, ◌<◌, ◌≤◌, nat_le, max, Bool, true, false, cond, ◌||◌, ◌==◌, List, length, slice_get, is_some, Option, None, Some, ◌⊎◌}
 use Rattle.std.specs.Option.{unwrap_or}
 use Rattle.std.specs.Ordering.{nat_cmp, ordering_then}
 use Rattle.std.specs.declared.cmp.Ordering.{Ordering}
@@ -15,7 +15,7 @@ use Rattle.vd_machine.specs.Machine.{Machine}
 use Rattle.vd_machine.specs.Race.{Races}
 use Rattle.vd_machine.specs.Rivals.{touch_at}
 use Rattle.vd_machine.specs.Thread.{System}
-use Rattle.vd_machine.specs.Touches.{nothing, is_at, is_in, covers, meet_at, Clashes}
+use Rattle.vd_machine.specs.Touches.{nothing, is_at, covers, meet_at, Clashes}
 
 -- a place in a block from a number on
 abbrev pub spot_reaches : Option Spot → ℕ → Bool

@@ -19,11 +19,21 @@ pub(crate) struct Level<'p> {
 }
 
 /// A function that runs. The lists below stand from the outermost on, each past the statement that the next one is in.
-#[derive(Drop)]
 pub(crate) struct Frame<'p> {
     pub(crate) level: Level<'p>,
     pub(crate) below: Vec<Level<'p>>,
     pub(crate) temps: Vec<Value>,
+}
+
+// Written by hand, so that an exit lets go of a frame by one call in place of one for each part.
+impl<'p> Drop for Frame<'p> {
+    fn drop(self) {
+        let Frame {
+            level: _,
+            below: _,
+            temps: _,
+        } = self;
+    }
 }
 
 /// A frame that waits for a call, and the temporary that takes the result.
@@ -34,10 +44,16 @@ pub(crate) struct Waiting<'p> {
 }
 
 /// A thread that runs. The frames that wait stand from the outermost on.
-#[derive(Drop)]
 pub(crate) struct Thread<'p> {
     pub(crate) top: Frame<'p>,
     pub(crate) waiting: Vec<Waiting<'p>>,
+}
+
+// By hand too, as for a frame.
+impl<'p> Drop for Thread<'p> {
+    fn drop(self) {
+        let Thread { top: _, waiting: _ } = self;
+    }
 }
 
 /// Past the next statement.

@@ -21,7 +21,6 @@ use vd_clight::{GlobalDef, Init, Program, TStmt};
 use vd_mem::{Cell, Memory, Value};
 
 /// A program that runs, thread by thread.
-#[derive(Drop)]
 pub struct Machine<'p> {
     alloc: Global,
     program: &'p Program,
@@ -30,6 +29,21 @@ pub struct Machine<'p> {
     threads: Vec<Option<Thread<'p>>>,
     finish: End,
     steps: u32,
+}
+
+// Written by hand, so that an exit lets go of a machine by one call in place of one for each part.
+impl<'p> Drop for Machine<'p> {
+    fn drop(self) {
+        let Machine {
+            alloc: _,
+            program: _,
+            rooms: _,
+            memory: _,
+            threads: _,
+            finish: _,
+            steps: _,
+        } = self;
+    }
 }
 
 impl<'p> Model for Machine<'p> {

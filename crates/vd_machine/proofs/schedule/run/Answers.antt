@@ -1,4 +1,4 @@
-use Rattle.std.proofs.Common.{rules, ◌≡◌, ◌<◌, ◌+◌, length, get_or, false, refl, sym, ◌∙◌, ap, subst, arith}
+use Rattle.std.proofs.Common.{rules, ◌≡◌, ◌<◌, ◌+◌, length, get_or, false, refl, sym, ◌∙◌, ap, subst}
 use Rattle.vd_machine.specs.declared.answer.Turn.{Turn}
 use Rattle.vd_machine.specs.Along.{IsNextRace}
 use Rattle.vd_machine.specs.Machine.{turned}
