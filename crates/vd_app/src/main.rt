@@ -1,23 +1,11 @@
-//! The program `desk`. So far it checks a link over its texts, and runs the link's program under a schedule.
+//! The program `desk`: the words of its command line, files and standard streams for the call that does the work.
 #![tactic(auto)]
-
-mod check;
-mod command;
-mod ending;
-mod files;
-mod inputs;
-mod lines;
-mod output;
-mod play;
-mod submission;
-#[cfg(test)]
-mod tests;
-mod top;
 
 use std::io::ErrorKind;
 use std::process::ExitCode;
 use std::{env, io};
 use vd_base::{FileShelf, OutSink};
+use vd_top::{desk_top, no_memory};
 
 /// The words after the program's name. Words of which one is no text are answered as none are.
 fn words_of(rt: &HostRuntime) -> io::Result<Vec<String>> {
@@ -39,8 +27,8 @@ fn main(rt: HostRuntime) -> ExitCode {
     let mut err = OutSink::new(rt.stderr());
     let mut shelf = FileShelf::new(&rt);
     let status = match words_of(&rt) {
-        Ok(words) => top::desk_top(rt.alloc(), words.as_slice(), &mut shelf, &mut out, &mut err),
-        Err(_) => ending::no_memory(&mut err),
+        Ok(words) => desk_top(rt.alloc(), words.as_slice(), &mut shelf, &mut out, &mut err),
+        Err(_) => no_memory(&mut err),
     };
     ExitCode::from(status)
 }

@@ -42,3 +42,5 @@ mod store;
 mod support;
 #[cfg(test)]
 mod tokens;
+#[cfg(test)]
+mod top;

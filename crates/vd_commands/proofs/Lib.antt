@@ -1,0 +1,10 @@
+pub mod Endings
+pub mod Gathering
+pub mod Heads
+pub mod Outcomes
+pub mod ReadLaws
+pub mod Runs
+pub mod Schedules
+pub mod Submitting
+pub mod Words
+pub mod Writing

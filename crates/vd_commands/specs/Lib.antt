@@ -1,0 +1,11 @@
+pub mod Answer
+pub mod Call
+pub mod Command
+pub mod Gathering
+pub mod Limits
+pub mod Play
+pub mod Reading
+pub mod Seen
+pub mod Steps
+pub mod Submission
+pub mod Wellformed
