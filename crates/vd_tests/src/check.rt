@@ -1,9 +1,10 @@
 //! Units of the form, and the reports of their links.
 
-use crate::support::{name, snapshot_of};
+use crate::support::snapshot_of;
 use std::alloc::{AllocError, Global};
 use vd_base::Text;
 use vd_check::try_scratch;
+use vd_ground_tests::name;
 use vd_store::{Outcome, Report};
 
 const SUM: &[u8] = b"int t ; t = 2 + 3 ; return t ;";

@@ -1,11 +1,11 @@
 //! Functions of one statement that are typed, or have their first fault.
 
-use crate::support::{name, one};
 use std::alloc::{AllocError, Global};
 use vd_base::{Boxed, CType, Field, List, Structs, Text, are_fields};
 use vd_clight::{BinOp, CScope, Kind, Lval, Part, Root, TExpr, TStmt, TypedFn};
 use vd_cparse::parse_section;
 use vd_ctyping::{TypeFault, type_fn};
+use vd_ground_tests::{name, one};
 
 /// What is wanted of a function; places count from its statement.
 #[derive(Clone, Copy, Debug, PartialEq, Eq)]

@@ -1,8 +1,8 @@
 //! The first faults of names in a unit and in the interface that it exports.
 
-use crate::support::{name, one};
 use std::alloc::{AllocError, Global};
 use vd_base::{CType, Field, List, Text};
+use vd_ground_tests::{name, one};
 use vd_heads::{Content, HeadSection, Mention, Part, Table, View};
 use vd_known::{Bodies, first_lack, first_twice, first_unknown};
 use vd_logic::{Assertion, Spec};

@@ -3,12 +3,13 @@
 ghost use Rattle.std.specs.Prelude.{IfOk, IsTrue};
 ghost use Rattle.vd_linkage.specs.Form.{ArePlain};
 
-use crate::support::{name, snapshot_of};
+use crate::support::snapshot_of;
 use std::alloc::{AllocError, Global};
 use vd_base::{List, Text};
 use vd_clight::Program;
 use vd_code::{Code, add_unit};
 use vd_declared::{declared_twice, has_one_main};
+use vd_ground_tests::name;
 use vd_link::{conditions, program};
 use vd_linkage::{is_plain, is_read};
 use vd_outline::Outline;

@@ -1,25 +1,9 @@
 //! What the tests of several crates make.
 
 use std::alloc::{AllocError, Global};
-use vd_base::{List, Name, NameFault, Text};
+use vd_base::{List, Text};
 use vd_outline::{cut_at, head_of};
 use vd_store::Snapshot;
-
-/// A name; want of memory also where the bytes are none.
-pub(crate) fn name(alloc: Global, bytes: &[u8]) -> Result<Name, AllocError> {
-    match Name::new(alloc, bytes) {
-        Ok(name) => Ok(name),
-        Err(NameFault::NotName) => Err(AllocError),
-        Err(NameFault::Memory(fault)) => Err(fault),
-    }
-}
-
-/// A list of one item.
-pub(crate) fn one<T: Drop>(alloc: Global, item: T) -> Result<List<T>, AllocError> {
-    let mut items = List::new(alloc);
-    items.push(item)?;
-    Ok(items)
-}
 
 /// A text, then a piece so many times.
 pub(crate) fn repeated(

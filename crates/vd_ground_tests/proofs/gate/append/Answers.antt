@@ -2,7 +2,7 @@ use Rattle.std.proofs.Common.{◌≡◌, ℕ, List, [], ◌∷◌, ◌++◌, Som
 use Rattle.vd_gate.specs.declared.story.PastTurn.{PastTurn}
 use Rattle.vd_gate.specs.Stories.{all_entries, all_entries-push}
 use Rattle.vd_gate.specs.Passes.{turns_of}
-use Rattle.vd_tests.proofs.gate.append.Goals as goal
+use Rattle.vd_ground_tests.proofs.gate.append.Goals as goal
 
 abbrev appended : ℕ → ℕ → PastTurn ℕ
 appended n x = record { number = n; entry = Some x }

@@ -1,10 +1,10 @@
 use Rattle.std.proofs.Common.{rules, arith, ◌≡◌, ℕ, ◌<◌, List, [], ◌∷◌, sym, subst}
 use Rattle.vd_gate.specs.declared.pass.GatePass.{GatePass}
-use Rattle.vd_tests.specs.declared.gate.Tape.{Tape}
+use Rattle.vd_ground_tests.specs.declared.gate.Tape.{Tape}
 use Rattle.vd_gate.specs.Passes.{number_of, made_of}
 use Rattle.vd_gate.specs.Gates.{AreAllPasses}
 use Rattle.vd_gate.proofs.AllPasses.{own_list, all_in_one}
-use Rattle.vd_tests.proofs.gate.a_lone_pass_closes.Goals as goal
+use Rattle.vd_ground_tests.proofs.gate.a_lone_pass_closes.Goals as goal
 
 pub close-items-requires : goal.close-items-requires
 close-items-requires g c =

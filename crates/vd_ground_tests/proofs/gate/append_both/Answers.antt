@@ -2,11 +2,11 @@ use Rattle.std.proofs.Common.{rules, arith, ◌≡◌, ℕ, zero, suc, ◌<◌, 
 use Rattle.std.specs.List.{Contains}
 use Rattle.std.proofs.lemmas.List.Elements.{Contains-append_right}
 use Rattle.vd_gate.specs.declared.pass.GatePass.{GatePass}
-use Rattle.vd_tests.specs.declared.gate.Tape.{Tape}
+use Rattle.vd_ground_tests.specs.declared.gate.Tape.{Tape}
 use Rattle.vd_gate.specs.Passes.{number_of, made_of, mine_of, IsFree, TakesOver}
 use Rattle.vd_gate.specs.Gates.{AreAllPasses}
 use Rattle.vd_gate.proofs.AllPasses.{own_list, all_in_one}
-use Rattle.vd_tests.proofs.gate.append_both.Goals as goal
+use Rattle.vd_ground_tests.proofs.gate.append_both.Goals as goal
 
 -- a pass of number 0 that took over number 1 has a list for both
 both_lists : (p o q : GatePass Tape ℕ) → IsFree o → IsFree q → number_of q ≡ 0 → number_of o ≡ 1 → TakesOver p o q → (n : ℕ) → n < 2 → (es : List ℕ) × Contains (mine_of q) (n, es)
