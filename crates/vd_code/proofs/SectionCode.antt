@@ -7,7 +7,7 @@ use Rattle.vd_clight.specs.declared.program.GlobalDef.{GlobalDef}
 use Rattle.vd_clight.specs.declared.program.Init.{Init}
 use Rattle.vd_clight.specs.declared.syntax.FnText.{FnText}
 use Rattle.vd_clight.specs.declared.typed.TypedFn.{TypedFn}
-use Rattle.vd_cparse.specs.declared.parts.Decl.TheVariants as decl
+use Rattle.vd_cgrammar.specs.declared.parts.Decl.TheVariants as decl
 use Rattle.vd_cparse.specs.Section.{AnswersDecl, IsFnSection}
 use Rattle.vd_ctyping.specs.declared.fault.TypeFault.{TypeFault}
 use Rattle.vd_ctyping.specs.declared.fault.TypeFault.TheVariants as typing

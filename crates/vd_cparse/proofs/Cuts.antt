@@ -9,14 +9,15 @@ use Rattle.vd_tokens.specs.declared.token.Token.{Token as Plain}
 use Rattle.vd_tokens.specs.declared.token.End.{End}
 use Rattle.vd_tokens.specs.declared.token.End.TheVariants as last
 use Rattle.vd_tokens.specs.Lexeme as plain
-use Rattle.vd_cparse.specs.declared.depth.Depth.{Depth}
-use Rattle.vd_cparse.specs.declared.token.Token.{Token}
-use Rattle.vd_cparse.specs.Lexeme.{Lexeme, lexeme_of, lexemes_of}
-use Rattle.vd_cparse.specs.Grammar.{grammar}
+use Rattle.vd_cgrammar.specs.declared.depth.Depth.{Depth}
+use Rattle.vd_cgrammar.specs.declared.token.Token.{Token}
+use Rattle.vd_cgrammar.specs.Lexeme.{Lexeme, lexeme_of, lexemes_of}
+use Rattle.vd_cgrammar.specs.Grammar.{grammar}
 use Rattle.vd_cparse.specs.HeaderLine.{end_at}
-use Rattle.vd_cparse.specs.Nesting.{nesting, after}
-use Rattle.vd_cparse.specs.Words.{lexeme_in, lexemes_in}
-use Rattle.vd_cparse.specs.Section.{is_text, place_of_end, place, IsCut, Lexes, Continued, HasTokens}
+use Rattle.vd_cgrammar.specs.Nesting.{nesting, after}
+use Rattle.vd_cgrammar.specs.Words.{lexeme_in, lexemes_in}
+use Rattle.vd_cgrammar.specs.Tokens.{place, IsCut}
+use Rattle.vd_cparse.specs.Section.{is_text, place_of_end, Lexes, Continued, HasTokens}
 
 -- ---- the kinds of tokens
 

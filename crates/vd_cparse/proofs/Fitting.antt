@@ -10,14 +10,14 @@ use Rattle.vd_tokens.specs.declared.token.End.TheVariants as last
 use Rattle.vd_tokens.specs.declared.token.TokenKind.{TokenKind}
 use Rattle.vd_tokens.specs.declared.token.TokenKind.TheVariants as shape
 use Rattle.vd_tokens.specs.Lexeme.{Lexeme as Token}
-use Rattle.vd_cparse.specs.declared.kind.Kind.{Kind}
-use Rattle.vd_cparse.specs.declared.kind.Kind.TheVariants as k
+use Rattle.vd_cgrammar.specs.declared.kind.Kind.{Kind}
+use Rattle.vd_cgrammar.specs.declared.kind.Kind.TheVariants as k
 use Rattle.std.specs.declared.alloc.AllocError.{AllocError}
 use Rattle.vd_cparse.specs.declared.lex.Lexed.{Lexed}
-use Rattle.vd_cparse.specs.Lexeme.{Lexeme, lexemes_of}
-use Rattle.vd_cparse.specs.Fits.{may_be, fits, all_fit}
+use Rattle.vd_cgrammar.specs.Lexeme.{Lexeme, lexemes_of}
+use Rattle.vd_cgrammar.specs.Fits.{may_be, fits, all_fit}
 use Rattle.vd_cparse.specs.HeaderLine.{end_at}
-use Rattle.vd_cparse.specs.Words.{kind_in, name_kind, type_words, statement_words, reserved_words, word_kind, separators, operators, double_operators, sign_kind, is_length, number_in, number_lexeme, lexeme_as, lexeme_in, lexemes_in}
+use Rattle.vd_cgrammar.specs.Words.{kind_in, name_kind, type_words, statement_words, reserved_words, word_kind, separators, operators, double_operators, sign_kind, is_length, number_in, number_lexeme, lexeme_as, lexeme_in, lexemes_in}
 use Rattle.vd_cparse.specs.Section.{Lexes, Continued, Continues, HasTokensBy, HasTokens, end_line}
 
 both_true : (a b : Bool) → a ≡ true → b ≡ true → (a && b) ≡ true

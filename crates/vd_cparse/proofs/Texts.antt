@@ -12,18 +12,19 @@ use Rattle.vd_tokens.specs.Text.{Tokenizes}
 use Rattle.vd_tokens.specs.OneText.{one_tokenization}
 use Rattle.vd_tokens.specs.declared.alphabet.Alphabet.TheVariants.{Declaration}
 use Rattle.std.specs.Str.{bytes_eq}
-use Rattle.vd_cparse.specs.declared.parts.Decl.{Decl}
-use Rattle.vd_cparse.specs.declared.kind.Kind.TheVariants as k
-use Rattle.vd_cparse.specs.Lexeme.{Lexeme}
-use Rattle.vd_cparse.specs.Fits.{all_fit}
+use Rattle.vd_cgrammar.specs.declared.parts.Decl.{Decl}
+use Rattle.vd_cgrammar.specs.declared.kind.Kind.TheVariants as k
+use Rattle.vd_cgrammar.specs.Lexeme.{Lexeme}
+use Rattle.vd_cgrammar.specs.Fits.{all_fit}
 use Rattle.vd_cparse.specs.Fronts.{IsContent, IsFront, IsFirstPlace, HasFront}
-use Rattle.vd_cparse.specs.Grammar.{Sort, Value, StructSection, GlobalSection, grammar}
+use Rattle.vd_cgrammar.specs.Grammar.{Sort, Value, StructSection, GlobalSection, grammar}
 use Rattle.vd_cparse.specs.HeaderLine.{word_of, found, missing, header_of, end_at}
-use Rattle.vd_cparse.specs.Nesting.{nesting}
-use Rattle.vd_cparse.specs.Section.{place, is_text, place_of_end, end_line, IsCut, Answers, Lexes, Continues, HasTokensBy, HasTokens, IsHeaderFault, IsRead, AnswersText, AnswersDeclBy, AnswersDecl, first_place}
-use Rattle.vd_cparse.specs.Words.{lexemes_in}
+use Rattle.vd_cgrammar.specs.Nesting.{nesting}
+use Rattle.vd_cgrammar.specs.Tokens.{place, IsCut, Answers}
+use Rattle.vd_cparse.specs.Section.{is_text, place_of_end, end_line, Lexes, Continues, HasTokensBy, HasTokens, IsHeaderFault, IsRead, AnswersText, AnswersDeclBy, AnswersDecl, first_place}
+use Rattle.vd_cgrammar.specs.Words.{lexemes_in}
 use Rattle.vd_cparse.proofs.Fitting.{fit_front}
-use Rattle.vd_cparse.proofs.Laws.{laws}
+use Rattle.vd_cgrammar.specs.Laws.{laws}
 
 -- ---- what the reader is given
 

@@ -8,9 +8,10 @@ use Rattle.vd_tokens.specs.declared.token.End.{End}
 use Rattle.vd_tokens.specs.Lexeme.{Lexeme as Token}
 use Rattle.vd_tokens.specs.Text.{Tokenizes}
 use Rattle.vd_cparse.specs.declared.lex.Front.{Front}
-use Rattle.vd_cparse.specs.Lexeme.{Lexeme, lexemes_of}
+use Rattle.vd_cgrammar.specs.Lexeme.{Lexeme, lexemes_of}
 use Rattle.vd_cparse.specs.HeaderLine.{found, header_of}
-use Rattle.vd_cparse.specs.Section.{HasTokens, IsCut, IsHeaderFault, is_text, place_of_end, first_place}
+use Rattle.vd_cgrammar.specs.Tokens.{IsCut}
+use Rattle.vd_cparse.specs.Section.{HasTokens, IsHeaderFault, is_text, place_of_end, first_place}
 
 -- the place of the first token of bytes that begin at a place
 pub record IsFirstPlace (alphabet : Alphabet) (place : ℕ) (bytes : List ℕ) (at : ℕ) : Type 0 where

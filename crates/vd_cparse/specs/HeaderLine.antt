@@ -2,7 +2,7 @@
 use Rattle.std.specs.Prelude.{ℕ, suc, ◌+◌, ◌==◌, Bool, false, ◌&&◌, List, [], ◌∷◌, length, take, drop, take_while, codes, Option, None, Some, option_map, if◌then◌else◌}
 use Rattle.std.specs.Str.{bytes_eq}
 use Rattle.vd_base.specs.Name.{is_word_byte}
-use Rattle.vd_cparse.specs.Words.{is_header_name}
+use Rattle.vd_cgrammar.specs.Words.{is_header_name}
 
 -- What stands in front of a text: a header line with this name, which ends at a place with the content behind it; or so many bytes that a header line may begin with, and what stands behind them.
 pub data HeaderCut : Type 0 where

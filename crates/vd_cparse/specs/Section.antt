@@ -4,20 +4,18 @@ use Rattle.std.specs.Prelude.{ℕ, ◌+◌, ◌≡◌, ◌⊎◌, Bool, true, fa
 use Rattle.vd_clight.specs.declared.syntax.FnText.{FnText}
 use Rattle.vd_grammar.specs.declared.fault.ParseFault.{ParseFault}
 use Rattle.vd_grammar.specs.declared.fault.ParseFault.TheVariants as fault
-use Rattle.vd_grammar.specs.declared.fault.Cause.{Cause}
-use Rattle.vd_grammar.specs.Section as section
 use Rattle.vd_tokens.specs.declared.alphabet.Alphabet.{Alphabet}
 use Rattle.vd_tokens.specs.declared.alphabet.Alphabet.TheVariants.{C, Declaration}
 use Rattle.vd_tokens.specs.declared.token.End.{End}
 use Rattle.vd_tokens.specs.declared.token.End.TheVariants as last
 use Rattle.vd_tokens.specs.Lexeme.{Lexeme as Token}
 use Rattle.vd_tokens.specs.Text.{Tokenizes}
-use Rattle.vd_cparse.specs.declared.kind.Kind.TheVariants as k
-use Rattle.vd_cparse.specs.Lexeme.{Lexeme}
-use Rattle.vd_cparse.specs.declared.parts.Decl.{Decl}
-use Rattle.vd_cparse.specs.Grammar.{Sort, Value, FnSection, StructSection, GlobalSection, grammar}
-use Rattle.vd_cparse.specs.Nesting.{nesting}
-use Rattle.vd_cparse.specs.Words.{lexemes_in}
+use Rattle.vd_cgrammar.specs.declared.kind.Kind.TheVariants as k
+use Rattle.vd_cgrammar.specs.Lexeme.{Lexeme}
+use Rattle.vd_cgrammar.specs.declared.parts.Decl.{Decl}
+use Rattle.vd_cgrammar.specs.Grammar.{Sort, Value, FnSection, StructSection, GlobalSection}
+use Rattle.vd_cgrammar.specs.Tokens.{Answers}
+use Rattle.vd_cgrammar.specs.Words.{lexemes_in}
 use Rattle.vd_cparse.specs.HeaderLine.{word_of, found, missing, header_of, end_at}
 
 -- ---- the tokens of a section
@@ -68,22 +66,6 @@ abbrev pub HasTokens : Alphabet → List ℕ → ℕ → List ℕ → List Lexem
 HasTokens alphabet own place body ts end = HasTokensBy (end_at true body) alphabet own place body ts end
 
 -- ---- what a reader answers
-
-abbrev pub place : Lexeme → ℕ
-place t = t.place
-
--- what follows when reading stops, at this grammar
-abbrev pub is_whole : List Lexeme → Cause → Bool
-is_whole = section.is_whole grammar nesting place
-
-abbrev pub fault_at : List Lexeme → Cause → ℕ → ParseFault
-fault_at = section.fault_at grammar nesting place
-
-abbrev pub IsCut : List Lexeme → Bool → ℕ → List Lexeme → Cause → ℕ → Type 0
-IsCut = section.IsCut grammar nesting place
-
-abbrev pub Answers : (S : Sort) → List Lexeme → Bool → ℕ → Result (Value S) ParseFault → Type 0
-Answers S = section.Answers grammar nesting place S
 
 -- the place of the first token, or where there is none
 abbrev pub first_place : List Token → End → ℕ

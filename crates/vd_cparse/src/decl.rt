@@ -3,20 +3,19 @@
 ghost use Rattle.std.specs.Prelude.{◌≡◌, ◌≢◌, true, Err, List, ℕ, Bool, Result};
 ghost use Rattle.vd_grammar.specs.declared.fault.ParseFault.{ParseFault};
 ghost use Rattle.vd_grammar.specs.declared.fault.ParseFault.TheVariants.{Memory};
-ghost use Rattle.vd_cparse.specs.declared.parts.Decl.{Decl};
-ghost use Rattle.vd_cparse.specs.Fits.{all_fit};
-ghost use Rattle.vd_cparse.specs.Grammar.{Sort};
-ghost use Rattle.vd_cparse.specs.Lexeme.{Lexeme, lexemes_of};
-ghost use Rattle.vd_cparse.specs.Section.{IsCut, Answers, AnswersStruct, AnswersGlobal, AnswersDecl};
+ghost use Rattle.vd_cgrammar.specs.declared.parts.Decl.{Decl};
+ghost use Rattle.vd_cgrammar.specs.Fits.{all_fit};
+ghost use Rattle.vd_cgrammar.specs.Grammar.{Sort};
+ghost use Rattle.vd_cgrammar.specs.Lexeme.{Lexeme, lexemes_of};
+ghost use Rattle.vd_cgrammar.specs.Tokens.{IsCut, Answers};
+ghost use Rattle.vd_cparse.specs.Section.{AnswersStruct, AnswersGlobal, AnswersDecl};
 
-use crate::declaration::{global_section, struct_section};
 use crate::header::split_word;
-use crate::parts::Decl;
 use crate::section::front_of;
-use crate::token::{Token, Tokens};
-use crate::words::spells;
 use std::alloc::Global;
 use vd_base::Text;
+use vd_cgrammar::{Decl, Token, Tokens, spells};
+use vd_ctext::{global_section, struct_section};
 use vd_grammar::{Cause, ParseFault, Stop};
 use vd_tokens::Alphabet;
 

@@ -5,8 +5,8 @@ ghost use Rattle.vd_base.specs.Name.{is_word_byte};
 ghost use Rattle.vd_cparse.specs.HeaderLine as header;
 ghost use Rattle.vd_cparse.specs.HeaderView.{header_view, FitsIn};
 
-use crate::words::{is_header_name, spells};
 use vd_base::is_word_byte;
+use vd_cgrammar::{is_header_name, spells};
 
 /// What stands in front of a text.
 #[derive(Clone, Copy)]

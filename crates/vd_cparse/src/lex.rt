@@ -2,19 +2,20 @@
 
 ghost use Rattle.std.specs.Prelude.{◌≡◌, ◌≤◌, ◌<◌, ◌+◌, ◌++◌, ◌^◌, true, length, IfOk};
 ghost use Rattle.vd_tokens.specs.Lexeme as plain;
-ghost use Rattle.vd_cparse.specs.Lexeme.{lexeme_of, lexemes_of};
-ghost use Rattle.vd_cparse.specs.Fits.{all_fit};
-ghost use Rattle.vd_cparse.specs.Words.{lexemes_in};
-ghost use Rattle.vd_cparse.specs.Section.{Lexes, HasTokens, IsCut, is_text, place_of_end, end_line, Continued};
+ghost use Rattle.vd_cgrammar.specs.Lexeme.{lexeme_of, lexemes_of};
+ghost use Rattle.vd_cgrammar.specs.Fits.{all_fit};
+ghost use Rattle.vd_cgrammar.specs.Words.{lexemes_in};
+ghost use Rattle.vd_cgrammar.specs.Tokens.{IsCut};
+ghost use Rattle.vd_cparse.specs.Section.{Lexes, HasTokens, is_text, place_of_end, end_line, Continued};
 
-use crate::depth::{Depth, LIMIT, after};
 use crate::header::end_of;
-use crate::kind::Kind;
-use crate::token::Token;
-use crate::words::token_in;
 use std::alloc::{AllocError, Global};
+use vd_cgrammar::{Depth, Kind, Token, after, token_in};
 use vd_grammar::Cause;
 use vd_tokens::{Alphabet, End, tokenize};
+
+/// Tokens are nested less deeply than this.
+const LIMIT: u32 = 256;
 
 /// The tokens of bytes, and why they end.
 #[derive(Drop)]

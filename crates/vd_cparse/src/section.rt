@@ -4,19 +4,20 @@ ghost use Rattle.std.specs.Prelude.{◌≡◌, ◌≢◌, ◌<◌, ◌+◌, ◌^
 ghost use Rattle.vd_grammar.specs.declared.fault.ParseFault.{ParseFault};
 ghost use Rattle.vd_grammar.specs.declared.fault.ParseFault.TheVariants.{Memory};
 ghost use Rattle.vd_clight.specs.declared.syntax.FnText.{FnText};
-ghost use Rattle.vd_cparse.specs.Fits.{all_fit};
+ghost use Rattle.vd_cgrammar.specs.Fits.{all_fit};
 ghost use Rattle.vd_cparse.specs.Fronts.{FirstPlace, IsContent, HasFront};
-ghost use Rattle.vd_cparse.specs.Grammar.{Sort};
-ghost use Rattle.vd_cparse.specs.Lexeme.{Lexeme, lexemes_of};
-ghost use Rattle.vd_cparse.specs.Section.{IsCut, Answers, AnswersFn};
+ghost use Rattle.vd_cgrammar.specs.Grammar.{Sort};
+ghost use Rattle.vd_cgrammar.specs.Lexeme.{Lexeme, lexemes_of};
+ghost use Rattle.vd_cgrammar.specs.Tokens.{IsCut, Answers};
+ghost use Rattle.vd_cparse.specs.Section.{AnswersFn};
 
-use crate::function::fn_section;
 use crate::header::{Header, header_of};
 use crate::lex::{Front, cut, section_tokens};
-use crate::token::{Token, Tokens};
 use std::alloc::{AllocError, Global};
 use vd_base::Text;
+use vd_cgrammar::{Token, Tokens};
 use vd_clight::FnText;
+use vd_ctext::fn_section;
 use vd_grammar::{Cause, ParseFault, Stop};
 use vd_tokens::{Alphabet, End, tokenize};
 

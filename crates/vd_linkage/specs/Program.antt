@@ -9,7 +9,7 @@ use Rattle.vd_clight.specs.declared.program.Program.{Program}
 use Rattle.vd_clight.specs.declared.syntax.FnText.{FnText}
 use Rattle.vd_clight.specs.declared.typed.TypedFn.{TypedFn}
 use Rattle.vd_clight.specs.Whole.{is_whole}
-use Rattle.vd_cparse.specs.declared.parts.Decl.TheVariants as decl
+use Rattle.vd_cgrammar.specs.declared.parts.Decl.TheVariants as decl
 use Rattle.vd_cparse.specs.Section.{AnswersDecl, IsFnSection}
 use Rattle.vd_ctyping.specs.Typing.{IsTyped}
 use Rattle.vd_heads.specs.declared.content.Part.{Part}

@@ -3,7 +3,7 @@ use Rattle.std.specs.Prelude.{◌≡◌, Bool, List, map, Ok}
 use Rattle.std.specs.List.{list_any}
 use Rattle.std.specs.Str.{bytes_eq}
 use Rattle.vd_clight.specs.declared.syntax.FnText.{FnText}
-use Rattle.vd_cparse.specs.declared.parts.Decl.{Decl}
+use Rattle.vd_cgrammar.specs.declared.parts.Decl.{Decl}
 use Rattle.vd_cparse.specs.Section.{AnswersDecl, IsFnSection}
 use Rattle.vd_heads.specs.declared.content.Mention.{Mention}
 use Rattle.vd_listing.specs.Listing.{IsListing}

@@ -3,7 +3,7 @@
 ghost use Rattle.std.specs.Prelude.{◌≢◌, ◌↔◌, Ok, IfOk, IsTrue, OnOk};
 ghost use Rattle.vd_grammar.specs.declared.fault.ParseFault.TheVariants.{Memory};
 ghost use Rattle.vd_clight.specs.declared.syntax.FnText.{FnText as Function_text};
-ghost use Rattle.vd_cparse.specs.declared.parts.Decl.{Decl as Declared};
+ghost use Rattle.vd_cgrammar.specs.declared.parts.Decl.{Decl as Declared};
 ghost use Rattle.vd_cparse.specs.Section.{AnswersDecl, IsFnSection};
 ghost use Rattle.vd_sparse.specs.declared.text.LogicText.{LogicText as Logic_text};
 ghost use Rattle.vd_sparse.specs.Sections.{AnswersLogic};

@@ -6,21 +6,21 @@ use Rattle.vd_grammar.specs.Nesting.{state_from}
 use Rattle.vd_tokens.specs.declared.alphabet.Alphabet.TheVariants.{C}
 use Rattle.vd_tokens.specs.declared.token.End.{End}
 use Rattle.vd_tokens.specs.declared.token.End.TheVariants as last
-use Rattle.vd_cparse.specs.declared.depth.Depth.{Depth}
-use Rattle.vd_cparse.specs.declared.kind.Kind.TheVariants as k
-use Rattle.vd_cparse.specs.Grammar.{Sort, Value, Rule, grammar, FnSection, Function}
+use Rattle.vd_cgrammar.specs.declared.depth.Depth.{Depth}
+use Rattle.vd_cgrammar.specs.declared.kind.Kind.TheVariants as k
+use Rattle.vd_cgrammar.specs.Grammar.{Sort, Value, Rule, grammar, FnSection, Function}
 use Rattle.vd_cparse.specs.HeaderLine.{end_at}
-use Rattle.vd_cparse.specs.Kinds.{same}
-use Rattle.vd_cparse.specs.Lexeme.{Lexeme}
-use Rattle.vd_cparse.specs.Nesting.{nesting, after, start}
-use Rattle.vd_cparse.specs.Precedence.{Vocabulary}
+use Rattle.vd_cgrammar.specs.Kinds.{same}
+use Rattle.vd_cgrammar.specs.Lexeme.{Lexeme}
+use Rattle.vd_cgrammar.specs.Nesting.{nesting, after, start}
+use Rattle.vd_cgrammar.specs.Precedence.{Vocabulary}
 use Rattle.vd_cparse.specs.Section.{Lexes, Continues, HasTokensBy, end_line, IsFnSection}
-use Rattle.vd_cparse.specs.Shallow.{nested, Shallow}
-use Rattle.vd_cparse.specs.Standing.{AreTokens, none, next, AreRead}
-use Rattle.vd_cparse.specs.Vocabularies.{lexeme_at, HasVocabulary}
-use Rattle.vd_cparse.proofs.Again.{first_read, both_read}
-use Rattle.vd_cparse.proofs.SectionWords.{have_vocabularies}
-use Rattle.vd_cparse.proofs.Starts.{Step, shown_of}
+use Rattle.vd_cgrammar.specs.Shallow.{nested, Shallow}
+use Rattle.vd_cgrammar.specs.Standing.{AreTokens, none, next, AreRead}
+use Rattle.vd_cgrammar.specs.Vocabularies.{lexeme_at, HasVocabulary}
+use Rattle.vd_cgrammar.proofs.Again.{first_read, both_read}
+use Rattle.vd_cgrammar.proofs.SectionWords.{have_vocabularies}
+use Rattle.vd_cgrammar.proofs.Starts.{Step, shown_of}
 use Rattle.vd_reprint.proofs.OwnNames.{NoEnd, lexemes_no_end}
 
 -- ---- a section's tokens, and a function's name

@@ -6,21 +6,21 @@ use Rattle.vd_base.specs.declared.ctype.CType.{CType}
 use Rattle.vd_clight.specs.declared.syntax.Expr.{Expr}
 use Rattle.vd_clight.specs.Printed.{Words, one, type_words, expression_words}
 use Rattle.vd_grammar.specs.Grammar.{Is}
-use Rattle.vd_cparse.specs.declared.depth.Depth.{Depth}
-use Rattle.vd_cparse.specs.declared.kind.Kind.{Kind}
-use Rattle.vd_cparse.specs.declared.kind.Kind.TheVariants as k
-use Rattle.vd_cparse.specs.declared.kind.Class.TheVariants as c
-use Rattle.vd_cparse.specs.Kinds.{has}
-use Rattle.vd_cparse.specs.Lexeme.{Lexeme}
-use Rattle.vd_cparse.specs.Nesting.{opens, closes, divides, is_operator, operators_after, after}
-use Rattle.vd_cparse.specs.Grammar.{grammar, Expression, Type_}
-use Rattle.vd_cparse.specs.Precedence.{Vocabulary, text_of, has_text, SpellsType, simple, struct, pointer}
-use Rattle.vd_cparse.specs.Shallow.{nested, walked, Shallow}
-use Rattle.vd_cparse.specs.Standing.{IsToken, AreRead, spellings}
-use Rattle.vd_cparse.proofs.PrintedSpells.{simple_words, simple_text_is, struct_words, pointer_words}
-use Rattle.vd_cparse.proofs.Shallowness.{Below, behind, PrintsSome, walked_append, shallow_parts, shallow_both, expression_prints}
-use Rattle.vd_cparse.proofs.Spelled.{only, read_is_spelled, type_is_spelled}
-use Rattle.vd_cparse.proofs.Starts.{append_nothing}
+use Rattle.vd_cgrammar.specs.declared.depth.Depth.{Depth}
+use Rattle.vd_cgrammar.specs.declared.kind.Kind.{Kind}
+use Rattle.vd_cgrammar.specs.declared.kind.Kind.TheVariants as k
+use Rattle.vd_cgrammar.specs.declared.kind.Class.TheVariants as c
+use Rattle.vd_cgrammar.specs.Kinds.{has}
+use Rattle.vd_cgrammar.specs.Lexeme.{Lexeme}
+use Rattle.vd_cgrammar.specs.Nesting.{opens, closes, divides, is_operator, operators_after, after}
+use Rattle.vd_cgrammar.specs.Grammar.{grammar, Expression, Type_}
+use Rattle.vd_cgrammar.specs.Precedence.{Vocabulary, text_of, has_text, SpellsType, simple, struct, pointer}
+use Rattle.vd_cgrammar.specs.Shallow.{nested, walked, Shallow}
+use Rattle.vd_cgrammar.specs.Standing.{IsToken, AreRead, spellings}
+use Rattle.vd_cgrammar.proofs.PrintedSpells.{simple_words, simple_text_is, struct_words, pointer_words}
+use Rattle.vd_cgrammar.proofs.Shallowness.{Below, behind, PrintsSome, walked_append, shallow_parts, shallow_both, expression_prints}
+use Rattle.vd_cgrammar.proofs.Spelled.{only, read_is_spelled, type_is_spelled}
+use Rattle.vd_cgrammar.proofs.Starts.{append_nothing}
 
 -- no more brackets and operators are counted, behind the same kind of token
 pub record Within (u d : Depth) : Type 0 where

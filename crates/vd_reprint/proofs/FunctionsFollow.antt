@@ -6,18 +6,18 @@ use Rattle.vd_base.specs.declared.ctype.Field.{Field}
 use Rattle.vd_clight.specs.declared.syntax.FnText.{FnText}
 use Rattle.vd_clight.specs.Printed.{one, type_words, field_words, parameter_words, declaration_words, statement_words, function_words}
 use Rattle.vd_grammar.specs.Grammar.{Is}
-use Rattle.vd_cparse.specs.declared.kind.Kind.TheVariants as k
-use Rattle.vd_cparse.specs.declared.kind.Class.TheVariants as c
-use Rattle.vd_cparse.specs.Kinds.{has}
-use Rattle.vd_cparse.specs.Lexeme.{Lexeme}
-use Rattle.vd_cparse.specs.Syntax.{field_of}
-use Rattle.vd_cparse.specs.Grammar.{Sort, Value, Rule, grammar, Function, Parameters, AfterVoid, MoreParameters, Declarations, Type_}
-use Rattle.vd_cparse.specs.Precedence.{Vocabulary}
-use Rattle.vd_cparse.specs.Standing.{AreRead, spellings}
-use Rattle.vd_cparse.proofs.Again.{first_read, both_read}
-use Rattle.vd_cparse.proofs.FunctionsBack.{printed_of, field_cut, function_cut, filled_is_type, void_is_type}
-use Rattle.vd_cparse.proofs.Spelled.{type_is_spelled}
-use Rattle.vd_cparse.proofs.Starts.{append_nothing, Step, shown_of}
+use Rattle.vd_cgrammar.specs.declared.kind.Kind.TheVariants as k
+use Rattle.vd_cgrammar.specs.declared.kind.Class.TheVariants as c
+use Rattle.vd_cgrammar.specs.Kinds.{has}
+use Rattle.vd_cgrammar.specs.Lexeme.{Lexeme}
+use Rattle.vd_cgrammar.specs.Syntax.{field_of}
+use Rattle.vd_cgrammar.specs.Grammar.{Sort, Value, Rule, grammar, Function, Parameters, AfterVoid, MoreParameters, Declarations, Type_}
+use Rattle.vd_cgrammar.specs.Precedence.{Vocabulary}
+use Rattle.vd_cgrammar.specs.Standing.{AreRead, spellings}
+use Rattle.vd_cgrammar.proofs.Again.{first_read, both_read}
+use Rattle.vd_cgrammar.proofs.FunctionsBack.{printed_of, field_cut, function_cut, filled_is_type, void_is_type}
+use Rattle.vd_cgrammar.proofs.Spelled.{type_is_spelled}
+use Rattle.vd_cgrammar.proofs.Starts.{append_nothing, Step, shown_of}
 use Rattle.vd_reprint.proofs.Following.{Follows, words_moved, sign_follows, itself_follows, ended, headed, joined, lone, type_follows}
 use Rattle.vd_reprint.proofs.SpacedLines.{Begins, begins_more, type_begins}
 use Rattle.vd_reprint.proofs.StatementsFollow.{body_follows}

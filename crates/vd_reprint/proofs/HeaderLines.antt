@@ -8,7 +8,7 @@ use Rattle.std.proofs.Math.Seq.{drop-append_seam}
 use Rattle.vd_base.specs.Name.{is_word_byte, is_name}
 use Rattle.vd_tokens.specs.Bytes.{is_no_line_feed, AllBytes}
 use Rattle.vd_tokens.specs.Shapes.{and_parts}
-use Rattle.vd_cparse.specs.Words.{is_header_name}
+use Rattle.vd_cgrammar.specs.Words.{is_header_name}
 use Rattle.vd_cparse.specs.HeaderLine.{found, missing, word_of, after_name, at_name, header_of, begins_end, end_at}
 
 -- ---- the header line

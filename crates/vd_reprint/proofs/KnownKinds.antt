@@ -3,15 +3,15 @@ use Rattle.std.proofs.Common.{ℕ, ◌≡◌, ◌≢◌, Bool, true, false, ◌&
 use Rattle.std.specs.Prelude.{not}
 use Rattle.vd_tokens.specs.Shapes.{and_parts}
 use Rattle.vd_grammar.specs.Grammar.{Symbol, word, part, Is}
-use Rattle.vd_cparse.specs.declared.kind.Kind.TheVariants as k
-use Rattle.vd_cparse.specs.declared.kind.Class.{Class}
-use Rattle.vd_cparse.specs.Derivations.{Parts, ByRules, all_are}
-use Rattle.vd_cparse.specs.Grammar.{Sort, Value, Rule, grammar, symbols}
-use Rattle.vd_cparse.specs.Kinds.{has}
-use Rattle.vd_cparse.specs.Lexeme.{Lexeme}
-use Rattle.vd_cparse.specs.Precedence.{Vocabulary}
-use Rattle.vd_cparse.specs.Standing.{AreTokens, none, next}
-use Rattle.vd_cparse.proofs.Starts.{Values}
+use Rattle.vd_cgrammar.specs.declared.kind.Kind.TheVariants as k
+use Rattle.vd_cgrammar.specs.declared.kind.Class.{Class}
+use Rattle.vd_cgrammar.specs.Derivations.{Parts, ByRules, all_are}
+use Rattle.vd_cgrammar.specs.Grammar.{Sort, Value, Rule, grammar, symbols}
+use Rattle.vd_cgrammar.specs.Kinds.{has}
+use Rattle.vd_cgrammar.specs.Lexeme.{Lexeme}
+use Rattle.vd_cgrammar.specs.Precedence.{Vocabulary}
+use Rattle.vd_cgrammar.specs.Standing.{AreTokens, none, next}
+use Rattle.vd_cgrammar.proofs.Starts.{Values}
 use Rattle.vd_clight.specs.Printed.{Words}
 
 -- no symbol takes an unknown token

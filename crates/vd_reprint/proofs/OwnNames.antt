@@ -9,12 +9,12 @@ use Rattle.vd_tokens.specs.declared.token.TokenKind.{TokenKind}
 use Rattle.vd_tokens.specs.declared.token.TokenKind.TheVariants as shape
 use Rattle.vd_tokens.specs.Lexeme.{Lexeme as Token}
 use Rattle.vd_tokens.specs.Shapes.{shape_of}
-use Rattle.vd_cparse.specs.declared.kind.Kind.{Kind}
-use Rattle.vd_cparse.specs.declared.kind.Kind.TheVariants as k
-use Rattle.vd_cparse.specs.Kinds.{same}
-use Rattle.vd_cparse.specs.Lexeme.{Lexeme}
-use Rattle.vd_cparse.specs.Words.{kind_in, type_words, statement_words, reserved_words, name_kind, word_kind, is_header_name, separators, operators, double_operators, sign_kind, is_length, number_in, number_kind, lexeme_as, lexemes_in}
-use Rattle.vd_cparse.specs.Vocabularies.{token_shape, lexeme_at}
+use Rattle.vd_cgrammar.specs.declared.kind.Kind.{Kind}
+use Rattle.vd_cgrammar.specs.declared.kind.Kind.TheVariants as k
+use Rattle.vd_cgrammar.specs.Kinds.{same}
+use Rattle.vd_cgrammar.specs.Lexeme.{Lexeme}
+use Rattle.vd_cgrammar.specs.Words.{kind_in, type_words, statement_words, reserved_words, name_kind, word_kind, is_header_name, separators, operators, double_operators, sign_kind, is_length, number_in, number_kind, lexeme_as, lexemes_in}
+use Rattle.vd_cgrammar.specs.Vocabularies.{token_shape, lexeme_at}
 
 -- no entry of the table is of the kind
 abbrev none_of : Kind → List (List ℕ × Kind) → Bool

@@ -9,22 +9,22 @@ use Rattle.vd_tokens.specs.declared.alphabet.Alphabet.TheVariants.{C}
 use Rattle.vd_tokens.specs.declared.token.End.TheVariants as last
 use Rattle.vd_tokens.specs.Bytes.{is_no_line_feed, AllBytes}
 use Rattle.vd_tokens.specs.Text.{Tokenizes, ends}
-use Rattle.vd_cparse.specs.declared.depth.Depth.{Depth}
-use Rattle.vd_cparse.specs.declared.kind.Kind.TheVariants as k
-use Rattle.vd_cparse.specs.Grammar.{Rule, grammar, FnSection}
+use Rattle.vd_cgrammar.specs.declared.depth.Depth.{Depth}
+use Rattle.vd_cgrammar.specs.declared.kind.Kind.TheVariants as k
+use Rattle.vd_cgrammar.specs.Grammar.{Rule, grammar, FnSection}
 use Rattle.vd_cparse.specs.HeaderLine.{header_of, end_at}
-use Rattle.vd_cparse.specs.Lexeme.{Lexeme}
-use Rattle.vd_cparse.specs.Nesting.{after, start}
-use Rattle.vd_cparse.specs.PrintLaw.{SpacedWord, spaced_text, spaced_tokens}
-use Rattle.vd_cparse.specs.Precedence.{Vocabulary}
+use Rattle.vd_cgrammar.specs.Lexeme.{Lexeme}
+use Rattle.vd_cgrammar.specs.Nesting.{after, start}
+use Rattle.vd_cgrammar.specs.PrintLaw.{SpacedWord, spaced_text, spaced_tokens}
+use Rattle.vd_cgrammar.specs.Precedence.{Vocabulary}
 use Rattle.vd_cparse.specs.Section.{HasTokensBy, HasTokens, IsClosed, end_line}
-use Rattle.vd_cparse.specs.Shallow.{nested, Shallow}
-use Rattle.vd_cparse.specs.Standing.{AreTokens, FunctionReadsAs}
-use Rattle.vd_cparse.specs.Words.{lexemes_in}
-use Rattle.vd_cparse.proofs.FunctionsBack.{functions_read_back}
-use Rattle.vd_cparse.proofs.SectionWords.{have_vocabularies}
-use Rattle.vd_cparse.proofs.Spacing.{spaced_are_tokens}
-use Rattle.vd_cparse.proofs.Starts.{put_together}
+use Rattle.vd_cgrammar.specs.Shallow.{nested, Shallow}
+use Rattle.vd_cgrammar.specs.Standing.{AreTokens, FunctionReadsAs}
+use Rattle.vd_cgrammar.specs.Words.{lexemes_in}
+use Rattle.vd_cgrammar.proofs.FunctionsBack.{functions_read_back}
+use Rattle.vd_cgrammar.proofs.SectionWords.{have_vocabularies}
+use Rattle.vd_cgrammar.proofs.Spacing.{spaced_are_tokens}
+use Rattle.vd_cgrammar.proofs.Starts.{put_together}
 use Rattle.vd_reprint.specs.Nested.{FunctionsAreShallow}
 use Rattle.vd_reprint.specs.SectionText.{SectionsReadBack}
 use Rattle.vd_reprint.proofs.Contents.{TokensShallow, fronts_shallow, words_shallow, shallow_words, Content, content_of}

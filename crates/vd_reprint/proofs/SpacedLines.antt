@@ -5,14 +5,14 @@ use Rattle.std.specs.List.{join_with_byte}
 use Rattle.vd_base.specs.declared.ctype.CType.{CType}
 use Rattle.vd_clight.specs.Printed.{Words, type_words}
 use Rattle.vd_tokens.specs.Bytes.{is_no_line_feed, AllBytes}
-use Rattle.vd_cparse.specs.declared.kind.Kind.{Kind}
-use Rattle.vd_cparse.specs.declared.kind.Kind.TheVariants as k
-use Rattle.vd_cparse.specs.declared.kind.Class.TheVariants as c
-use Rattle.vd_cparse.specs.Kinds.{has}
-use Rattle.vd_cparse.specs.PrintLaw.{SpacedWord, spaced_text}
-use Rattle.vd_cparse.specs.Precedence.{Vocabulary, text_of, SpellsType, simple, struct, pointer}
-use Rattle.vd_cparse.proofs.PrintedSpells.{simple_words, struct_words, pointer_words}
-use Rattle.vd_cparse.proofs.SectionWords.{have_vocabularies}
+use Rattle.vd_cgrammar.specs.declared.kind.Kind.{Kind}
+use Rattle.vd_cgrammar.specs.declared.kind.Kind.TheVariants as k
+use Rattle.vd_cgrammar.specs.declared.kind.Class.TheVariants as c
+use Rattle.vd_cgrammar.specs.Kinds.{has}
+use Rattle.vd_cgrammar.specs.PrintLaw.{SpacedWord, spaced_text}
+use Rattle.vd_cgrammar.specs.Precedence.{Vocabulary, text_of, SpellsType, simple, struct, pointer}
+use Rattle.vd_cgrammar.proofs.PrintedSpells.{simple_words, struct_words, pointer_words}
+use Rattle.vd_cgrammar.proofs.SectionWords.{have_vocabularies}
 use Rattle.vd_reprint.proofs.KnownKinds.{AllTaken}
 use Rattle.vd_reprint.proofs.TokenShapes.{IsWord, known_is_word, plain_append, word_is_plain}
 

@@ -8,25 +8,25 @@ use Rattle.vd_clight.specs.declared.syntax.StmtNode.TheVariants as s
 use Rattle.vd_clight.specs.declared.syntax.StmtNode.TheVariants.{outs-Skip, outs-Call, outs-If, outs-While, outs-Return}
 use Rattle.vd_clight.specs.Printed.{Words, one, listed, expression_words, type_words, block_words, else_words, statement_words}
 use Rattle.vd_grammar.specs.Grammar.{Is}
-use Rattle.vd_cparse.specs.declared.depth.Depth.{Depth}
-use Rattle.vd_cparse.specs.declared.kind.Kind.TheVariants as k
-use Rattle.vd_cparse.specs.declared.kind.Class.TheVariants as c
-use Rattle.vd_cparse.specs.declared.parts.Source.{Source}
-use Rattle.vd_cparse.specs.declared.parts.Source.TheVariants as source
-use Rattle.vd_cparse.specs.Kinds.{has}
-use Rattle.vd_cparse.specs.Lexeme.{Lexeme}
-use Rattle.vd_cparse.specs.Nesting.{after}
-use Rattle.vd_cparse.specs.Syntax.{at, behind, grouped, assigned, source_of, statement_of}
-use Rattle.vd_cparse.specs.Grammar.{Sort, Value, Rule, grammar, Expression, Arguments, MoreArguments, Special, Right, AfterTarget, AfterName, Returned, Statement, Statements, Block, Otherwise}
-use Rattle.vd_cparse.specs.Precedence.{Vocabulary, text_of, has_text}
-use Rattle.vd_cparse.specs.Shallow.{walked, Shallow}
-use Rattle.vd_cparse.specs.Standing.{IsToken, AreRead, spellings}
-use Rattle.vd_cparse.proofs.Again.{first_read, both_read}
-use Rattle.vd_cparse.proofs.CallsBack.{printed_of, call_cut, name_words, size_words}
-use Rattle.vd_cparse.proofs.SameStatements.{words_at, source_words, assigned_words}
-use Rattle.vd_cparse.proofs.Shallowness.{state, walked_append, shallow_parts, shallow_both}
-use Rattle.vd_cparse.proofs.Starts.{append_nothing, Step, shown_of}
-use Rattle.vd_cparse.proofs.StatementsBack.{name_first, other_first, jump_words, jump_text}
+use Rattle.vd_cgrammar.specs.declared.depth.Depth.{Depth}
+use Rattle.vd_cgrammar.specs.declared.kind.Kind.TheVariants as k
+use Rattle.vd_cgrammar.specs.declared.kind.Class.TheVariants as c
+use Rattle.vd_cgrammar.specs.declared.parts.Source.{Source}
+use Rattle.vd_cgrammar.specs.declared.parts.Source.TheVariants as source
+use Rattle.vd_cgrammar.specs.Kinds.{has}
+use Rattle.vd_cgrammar.specs.Lexeme.{Lexeme}
+use Rattle.vd_cgrammar.specs.Nesting.{after}
+use Rattle.vd_cgrammar.specs.Syntax.{at, behind, grouped, assigned, source_of, statement_of}
+use Rattle.vd_cgrammar.specs.Grammar.{Sort, Value, Rule, grammar, Expression, Arguments, MoreArguments, Special, Right, AfterTarget, AfterName, Returned, Statement, Statements, Block, Otherwise}
+use Rattle.vd_cgrammar.specs.Precedence.{Vocabulary, text_of, has_text}
+use Rattle.vd_cgrammar.specs.Shallow.{walked, Shallow}
+use Rattle.vd_cgrammar.specs.Standing.{IsToken, AreRead, spellings}
+use Rattle.vd_cgrammar.proofs.Again.{first_read, both_read}
+use Rattle.vd_cgrammar.proofs.CallsBack.{printed_of, call_cut, name_words, size_words}
+use Rattle.vd_cgrammar.proofs.SameStatements.{words_at, source_words, assigned_words}
+use Rattle.vd_cgrammar.proofs.Shallowness.{state, walked_append, shallow_parts, shallow_both}
+use Rattle.vd_cgrammar.proofs.Starts.{append_nothing, Step, shown_of}
+use Rattle.vd_cgrammar.proofs.StatementsBack.{name_first, other_first, jump_words, jump_text}
 use Rattle.vd_reprint.proofs.Following.{Within, Follows, token_follows, words_moved, sign_follows, itself_follows, ended, headed, joined, lone, expression_follows, type_follows}
 
 -- no operator is counted, and the last token is no `(`

@@ -11,10 +11,10 @@ use Rattle.vd_tokens.specs.Bytes.{is_digit, is_letter, is_word_byte, is_blank, i
 use Rattle.vd_tokens.specs.Shapes.{all_bytes, is_nothing, when, suffix_on, digits_on, number_on, slash_shape, stars_shape, closes_at_end, sign_on, shape_of, is_sign, and_parts}
 use Rattle.vd_tokens.specs.Signs.{is_single, is_pair}
 use Rattle.vd_tokens.specs.Text.{IsDecimal, has_close, Shape, Token, Gap, Unclosed, IsElement, word, number, suffixed, single, pair}
-use Rattle.vd_cparse.specs.declared.kind.Kind.{Kind}
-use Rattle.vd_cparse.specs.declared.kind.Kind.TheVariants as k
-use Rattle.vd_cparse.specs.Words.{kind_in, separators, operators, double_operators, sign_kind, lexeme_as}
-use Rattle.vd_cparse.specs.Vocabularies.{token_shape, lexeme_at}
+use Rattle.vd_cgrammar.specs.declared.kind.Kind.{Kind}
+use Rattle.vd_cgrammar.specs.declared.kind.Kind.TheVariants as k
+use Rattle.vd_cgrammar.specs.Words.{kind_in, separators, operators, double_operators, sign_kind, lexeme_as}
+use Rattle.vd_cgrammar.specs.Vocabularies.{token_shape, lexeme_at}
 
 -- ---- bytes of a shape are a token
 

@@ -3,12 +3,12 @@ use Rattle.std.specs.Prelude.{ℕ, List}
 use Rattle.vd_clight.specs.declared.syntax.FnText.{FnText}
 use Rattle.vd_clight.specs.Printed.{function_words}
 use Rattle.vd_grammar.specs.Grammar.{Is}
-use Rattle.vd_cparse.specs.declared.depth.Depth.{Depth}
-use Rattle.vd_cparse.specs.Grammar.{grammar, Function}
-use Rattle.vd_cparse.specs.Lexeme.{Lexeme}
-use Rattle.vd_cparse.specs.Precedence.{Vocabulary}
-use Rattle.vd_cparse.specs.Shallow.{Shallow}
-use Rattle.vd_cparse.specs.Standing.{AreRead, spellings}
+use Rattle.vd_cgrammar.specs.declared.depth.Depth.{Depth}
+use Rattle.vd_cgrammar.specs.Grammar.{grammar, Function}
+use Rattle.vd_cgrammar.specs.Lexeme.{Lexeme}
+use Rattle.vd_cgrammar.specs.Precedence.{Vocabulary}
+use Rattle.vd_cgrammar.specs.Shallow.{Shallow}
+use Rattle.vd_cgrammar.specs.Standing.{AreRead, spellings}
 
 -- What is printed of a function is nested no more deeply than any tokens that are read as it.
 abbrev pub FunctionsAreShallow : Type 0

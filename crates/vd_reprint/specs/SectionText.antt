@@ -3,7 +3,7 @@ use Rattle.std.specs.Prelude.{ℕ, List, ◌++◌, codes}
 use Rattle.vd_clight.specs.declared.syntax.FnText.{FnText}
 use Rattle.vd_clight.specs.Printed.{printed}
 use Rattle.vd_cparse.specs.Section.{IsFnSection}
-use Rattle.vd_cparse.specs.Unplaced.{SameFunction}
+use Rattle.vd_cgrammar.specs.Unplaced.{SameFunction}
 
 -- the header line with the function's name, the printed text in a line, and the line `end`
 abbrev pub section_text : FnText → List ℕ

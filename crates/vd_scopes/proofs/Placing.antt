@@ -5,8 +5,8 @@ use Rattle.std.proofs.lemmas.Bool.{cases_lt}
 use Rattle.std.proofs.lemmas.List.{take_more, length_push}
 use Rattle.std.proofs.lemmas.List.Elements.{All-get_or}
 use Rattle.std.proofs.lemmas.Result.{IfOk-weaker}
-use Rattle.vd_cparse.specs.declared.parts.Decl.{Decl}
-use Rattle.vd_cparse.specs.declared.parts.Decl.TheVariants as decl
+use Rattle.vd_cgrammar.specs.declared.parts.Decl.{Decl}
+use Rattle.vd_cgrammar.specs.declared.parts.Decl.TheVariants as decl
 use Rattle.vd_grammar.specs.declared.fault.ParseFault.{ParseFault}
 use Rattle.vd_grammar.specs.declared.fault.ParseFault.TheVariants as fault
 use Rattle.vd_heads.specs.declared.content.Content.{Content}

@@ -1,6 +1,6 @@
 -- Texts say one thing as the inputs of a work.
 use Rattle.std.proofs.Common.{◌≡◌, ◌≢◌, ◌∙◌, ◌-◌, ◌+◌, ◌^◌, min, ℕ, List, [], ◌∷◌, ◌++◌, length, flat_map, Option, None, Some, Result, Ok, Err, refl, ap, sym, subst}
-use Rattle.vd_cparse.specs.declared.parts.Decl.{Decl}
+use Rattle.vd_cgrammar.specs.declared.parts.Decl.{Decl}
 use Rattle.vd_cparse.proofs.Texts.{decl_exact}
 use Rattle.vd_grammar.specs.declared.fault.ParseFault.{ParseFault}
 use Rattle.vd_grammar.specs.declared.fault.ParseFault.TheVariants as fault

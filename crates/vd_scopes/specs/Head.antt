@@ -1,7 +1,7 @@
 -- What the head part of a text says: each of its head sections, with the place of its header line.
 use Rattle.std.specs.Prelude.{◌≡◌, ◌≢◌, ℕ, ◌+◌, ◌-◌, ◌^◌, min, List, [], ◌∷◌, length, map, None, Some, Result, Ok, Err}
-use Rattle.vd_cparse.specs.declared.parts.Decl.{Decl}
-use Rattle.vd_cparse.specs.declared.parts.Decl.TheVariants as decl
+use Rattle.vd_cgrammar.specs.declared.parts.Decl.{Decl}
+use Rattle.vd_cgrammar.specs.declared.parts.Decl.TheVariants as decl
 use Rattle.vd_cparse.specs.Section.{AnswersDecl}
 use Rattle.vd_grammar.specs.declared.fault.ParseFault.{ParseFault}
 use Rattle.vd_grammar.specs.declared.fault.ParseFault.TheVariants as fault

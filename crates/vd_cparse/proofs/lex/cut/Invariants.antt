@@ -1,9 +1,9 @@
 use Rattle.std.proofs.Common.{drop}
 use Rattle.vd_grammar.specs.SectionLaws.{Cutting}
-use Rattle.vd_cparse.specs.Grammar.{grammar}
-use Rattle.vd_cparse.specs.Lexeme.{lexemes_of}
-use Rattle.vd_cparse.specs.Nesting.{nesting}
-use Rattle.vd_cparse.specs.Section.{place}
+use Rattle.vd_cgrammar.specs.Grammar.{grammar}
+use Rattle.vd_cgrammar.specs.Lexeme.{lexemes_of}
+use Rattle.vd_cgrammar.specs.Nesting.{nesting}
+use Rattle.vd_cgrammar.specs.Tokens.{place}
 use Rattle.vd_cparse.proofs.lex.cut.Given as goal
 
 abbrev pub invariant-tokens : goal.invariant-tokens

@@ -1,7 +1,7 @@
 use Rattle.std.proofs.Common.{◌≡◌, ◌++◌, drop}
 use Rattle.vd_tokens.specs.Lexeme as plain
-use Rattle.vd_cparse.specs.Lexeme.{lexemes_of}
-use Rattle.vd_cparse.specs.Words.{lexemes_in}
+use Rattle.vd_cgrammar.specs.Lexeme.{lexemes_of}
+use Rattle.vd_cgrammar.specs.Words.{lexemes_in}
 use Rattle.vd_cparse.proofs.lex.with_tokens.Given as goal
 
 abbrev pub invariant-tokens : goal.invariant-tokens

@@ -1,6 +1,6 @@
 use Rattle.std.proofs.Common.{rules, codes, Err, refl}
 use Rattle.vd_tokens.specs.declared.alphabet.Alphabet.TheVariants.{C}
-use Rattle.vd_cparse.specs.Grammar.{FnSection}
+use Rattle.vd_cgrammar.specs.Grammar.{FnSection}
 use Rattle.vd_cparse.specs.Section.{AnswersFn}
 use Rattle.vd_cparse.proofs.Texts.{exact}
 use Rattle.vd_cparse.proofs.section.parse_section.Goals as goal

@@ -1,10 +1,10 @@
 use Rattle.std.proofs.Common.{refl, sym, ◌∙◌, ap}
 use Rattle.vd_grammar.specs.SectionLaws.{section_answer, left_answer, stop_answer}
-use Rattle.vd_cparse.specs.Grammar.{FnSection, grammar}
-use Rattle.vd_cparse.specs.Nesting.{nesting}
-use Rattle.vd_cparse.specs.Read.{read}
-use Rattle.vd_cparse.specs.Section.{place}
-use Rattle.vd_cparse.proofs.Laws.{laws}
+use Rattle.vd_cgrammar.specs.Grammar.{FnSection, grammar}
+use Rattle.vd_cgrammar.specs.Nesting.{nesting}
+use Rattle.vd_cgrammar.specs.Read.{read}
+use Rattle.vd_cgrammar.specs.Tokens.{place}
+use Rattle.vd_cgrammar.specs.Laws.{laws}
 use Rattle.vd_cparse.proofs.section.read_fn.Goals as goal
 
 pub returns-then-is_whole : goal.returns-then-is_whole

@@ -1,9 +1,0 @@
-use Rattle.std.proofs.Common.{rules, sym, ◌∙◌}
-use Rattle.vd_cparse.proofs.Values.{more_step}
-use Rattle.vd_cparse.proofs.declaration.more_values.Goals as goal
-
-pub found-preserved : goal.found-preserved
-found-preserved c = (
-  more_step _ _ _ _ _ _ _ _ _ c.in_ok-push.ensures.ok c.found.invariant.0 (sym c.goes_on.ensures.test ∙ c.found-test.true) c.in_ok-take.ensures.takes c.in_ok-init_value.ensures.reads,
-  search rules,
-)

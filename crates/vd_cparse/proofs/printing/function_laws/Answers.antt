@@ -1,5 +1,0 @@
-use Rattle.vd_cparse.proofs.FunctionsBack.{functions_read_back}
-use Rattle.vd_cparse.proofs.printing.function_laws.Goals as goal
-
-pub returns : goal.returns
-returns c = functions_read_back

@@ -1,5 +1,0 @@
-use Rattle.vd_cparse.proofs.Shallowness.{printed_is_shallow}
-use Rattle.vd_cparse.proofs.printing.shallow_laws.Goals as goal
-
-pub returns : goal.returns
-returns c = printed_is_shallow

@@ -1,5 +1,0 @@
-use Rattle.vd_cparse.proofs.SectionWords.{have_vocabularies}
-use Rattle.vd_cparse.proofs.printing.vocabulary_laws.Goals as goal
-
-pub returns : goal.returns
-returns c = have_vocabularies

@@ -1,0 +1,124 @@
+//! Parameters and temporaries.
+
+ghost use Rattle.std.specs.Prelude.{◌≡◌, ◌≤◌, length};
+ghost use Rattle.vd_grammar.specs.Outcome.{with_front};
+ghost use Rattle.vd_grammar.specs.Reads.{Reads};
+ghost use Rattle.vd_cgrammar.specs.Grammar.{Sort, Rule};
+ghost use Rattle.vd_cgrammar.specs.Read.{read, read_rule};
+
+use crate::types::{ctype, filled, void_type};
+use std::alloc::Global;
+use vd_base::{Field, List, hold};
+use vd_cgrammar::{Class, Kind, Tokens, name_of};
+use vd_grammar::Stop;
+
+/// The parameters behind others, up to the closing bracket.
+#[tactic(auto, using(vd_cgrammar::specs::Laws::read_is, vd_grammar::specs::Loops::fronts))]
+fn more_parameters(
+    alloc: Global,
+    tokens: &mut Tokens<'_>,
+    first: List<Field>,
+) -> Result<List<Field>, Stop>
+    ensures reads { Reads (with_front first (read Sort.MoreParameters tokens.old)) result tokens.new }
+    ensures no_longer { length tokens.new ≤ length tokens.old }
+{
+    let mut found = first;
+    'found: while !tokens.sees(Class::One(Kind::RightParen)) {
+        tokens.take(Kind::Comma)?;
+        let typ = hold(ctype(alloc, tokens)?);
+        let name = tokens.name()?;
+        let name = name_of(alloc, name)?;
+        let typ = typ.out();
+        found.push(Field { name, typ })?;
+    }
+    tokens.take(Kind::RightParen)?;
+    Ok(found)
+}
+
+#[tactic(auto, using(vd_grammar::specs::Loops::fronts))]
+fn void_parameter(alloc: Global, tokens: &mut Tokens<'_>) -> Result<List<Field>, Stop>
+    ensures reads { Reads (read_rule Rule.void_parameter tokens.old) result tokens.new }
+    ensures no_longer { length tokens.new ≤ length tokens.old }
+{
+    let typ = hold(void_type(alloc, tokens)?);
+    let name = tokens.name()?;
+    let name = name_of(alloc, name)?;
+    let mut found = List::new(alloc);
+    let typ = typ.out();
+    found.push(Field { name, typ })?;
+    more_parameters(alloc, tokens, found)
+}
+
+fn no_parameter(alloc: Global, tokens: &mut Tokens<'_>) -> Result<List<Field>, Stop>
+    ensures reads { Reads (read_rule Rule.no_parameter tokens.old) result tokens.new }
+    ensures no_longer { length tokens.new ≤ length tokens.old }
+{
+    tokens.take(Kind::RightParen)?;
+    Ok(List::new(alloc))
+}
+
+/// What stands behind a `void` in front.
+#[tactic(auto, using(vd_cgrammar::specs::Laws::read_is))]
+fn after_void(alloc: Global, tokens: &mut Tokens<'_>) -> Result<List<Field>, Stop>
+    ensures reads { Reads (read Sort.AfterVoid tokens.old) result tokens.new }
+    ensures no_longer { length tokens.new ≤ length tokens.old }
+{
+    if tokens.sees(Class::One(Kind::RightParen)) {
+        no_parameter(alloc, tokens)
+    } else {
+        void_parameter(alloc, tokens)
+    }
+}
+
+fn void_first(alloc: Global, tokens: &mut Tokens<'_>) -> Result<List<Field>, Stop>
+    ensures reads { Reads (read_rule Rule.void_first tokens.old) result tokens.new }
+    ensures no_longer { length tokens.new ≤ length tokens.old }
+{
+    tokens.take(Kind::Void)?;
+    after_void(alloc, tokens)
+}
+
+#[tactic(auto, using(vd_grammar::specs::Loops::fronts))]
+fn filled_first(alloc: Global, tokens: &mut Tokens<'_>) -> Result<List<Field>, Stop>
+    ensures reads { Reads (read_rule Rule.filled_first tokens.old) result tokens.new }
+    ensures no_longer { length tokens.new ≤ length tokens.old }
+{
+    let typ = hold(filled(alloc, tokens)?);
+    let name = tokens.name()?;
+    let name = name_of(alloc, name)?;
+    let mut found = List::new(alloc);
+    let typ = typ.out();
+    found.push(Field { name, typ })?;
+    more_parameters(alloc, tokens, found)
+}
+
+/// The parameters of a function, up to the closing bracket.
+#[tactic(auto, using(vd_cgrammar::specs::Laws::read_is))]
+pub(crate) fn parameters(alloc: Global, tokens: &mut Tokens<'_>) -> Result<List<Field>, Stop>
+    ensures reads { Reads (read Sort.Parameters tokens.old) result tokens.new }
+    ensures no_longer { length tokens.new ≤ length tokens.old }
+{
+    if tokens.sees(Class::One(Kind::Void)) {
+        void_first(alloc, tokens)
+    } else {
+        filled_first(alloc, tokens)
+    }
+}
+
+/// The declarations of temporaries.
+#[tactic(auto, using(vd_cgrammar::specs::Laws::read_is, vd_grammar::specs::Loops::fronts))]
+pub(crate) fn declarations(alloc: Global, tokens: &mut Tokens<'_>) -> Result<List<Field>, Stop>
+    ensures reads { Reads (read Sort.Declarations tokens.old) result tokens.new }
+    ensures no_longer { length tokens.new ≤ length tokens.old }
+{
+    let mut found = List::new(alloc);
+    'found: while tokens.sees(Class::TypeWord) {
+        let typ = hold(ctype(alloc, tokens)?);
+        let name = tokens.name()?;
+        let name = name_of(alloc, name)?;
+        tokens.take(Kind::Semicolon)?;
+        let typ = typ.out();
+        found.push(Field { name, typ })?;
+    }
+    Ok(found)
+}
