@@ -1,6 +1,6 @@
 //! Assignments, and what stands behind a name that begins a statement.
 
-ghost use Rattle.std.specs.Prelude.{◌≡◌, ◌≤◌, length};
+ghost use Rattle.std.specs.Prelude.{◌≡◌, ◌≤◌, length, OnOk};
 ghost use Rattle.vd_grammar.specs.Reads.{Reads};
 ghost use Rattle.vd_cgrammar.specs.Grammar.{Sort, Rule};
 ghost use Rattle.vd_cgrammar.specs.Read.{read, read_rule};
@@ -14,7 +14,7 @@ use vd_grammar::Stop;
 
 fn special_source(alloc: Global, tokens: &mut Tokens<'_>) -> Result<Source, Stop>
     ensures reads { Reads (read_rule Rule.special_source tokens.old) result tokens.new }
-    ensures no_longer { length tokens.new ≤ length tokens.old }
+    ensures no_longer { OnOk result (length tokens.new ≤ length tokens.old) }
 {
     let call = hold(special(alloc, tokens)?);
     tokens.take(Kind::Semicolon)?;
@@ -24,7 +24,7 @@ fn special_source(alloc: Global, tokens: &mut Tokens<'_>) -> Result<Source, Stop
 
 fn called_source(alloc: Global, tokens: &mut Tokens<'_>) -> Result<Tail, Stop>
     ensures reads { Reads (read_rule Rule.called_source tokens.old) result tokens.new }
-    ensures no_longer { length tokens.new ≤ length tokens.old }
+    ensures no_longer { OnOk result (length tokens.new ≤ length tokens.old) }
 {
     tokens.take(Kind::LeftParen)?;
     let arguments = arguments(alloc, tokens)?;
@@ -34,7 +34,7 @@ fn called_source(alloc: Global, tokens: &mut Tokens<'_>) -> Result<Tail, Stop>
 
 fn operated_source(alloc: Global, tokens: &mut Tokens<'_>) -> Result<Tail, Stop>
     ensures reads { Reads (read_rule Rule.operated_source tokens.old) result tokens.new }
-    ensures no_longer { length tokens.new ≤ length tokens.old }
+    ensures no_longer { OnOk result (length tokens.new ≤ length tokens.old) }
 {
     let postfixes = postfixes(alloc, tokens)?;
     let operations = operations(alloc, tokens)?;
@@ -46,7 +46,7 @@ fn operated_source(alloc: Global, tokens: &mut Tokens<'_>) -> Result<Tail, Stop>
 #[tactic(auto, using(vd_cgrammar::specs::Laws::read_is))]
 fn after_target(alloc: Global, tokens: &mut Tokens<'_>) -> Result<Tail, Stop>
     ensures reads { Reads (read Sort.AfterTarget tokens.old) result tokens.new }
-    ensures no_longer { length tokens.new ≤ length tokens.old }
+    ensures no_longer { OnOk result (length tokens.new ≤ length tokens.old) }
 {
     if tokens.sees(Class::One(Kind::LeftParen)) {
         called_source(alloc, tokens)
@@ -57,7 +57,7 @@ fn after_target(alloc: Global, tokens: &mut Tokens<'_>) -> Result<Tail, Stop>
 
 fn named_source(alloc: Global, tokens: &mut Tokens<'_>) -> Result<Source, Stop>
     ensures reads { Reads (read_rule Rule.named_source tokens.old) result tokens.new }
-    ensures no_longer { length tokens.new ≤ length tokens.old }
+    ensures no_longer { OnOk result (length tokens.new ≤ length tokens.old) }
 {
     let token = tokens.name()?;
     let rest = hold(after_target(alloc, tokens)?);
@@ -67,7 +67,7 @@ fn named_source(alloc: Global, tokens: &mut Tokens<'_>) -> Result<Source, Stop>
 
 fn other_source(alloc: Global, tokens: &mut Tokens<'_>) -> Result<Source, Stop>
     ensures reads { Reads (read_rule Rule.other_source tokens.old) result tokens.new }
-    ensures no_longer { length tokens.new ≤ length tokens.old }
+    ensures no_longer { OnOk result (length tokens.new ≤ length tokens.old) }
 {
     let first = hold(plain(alloc, tokens)?);
     let others = operations(alloc, tokens)?;
@@ -79,7 +79,7 @@ fn other_source(alloc: Global, tokens: &mut Tokens<'_>) -> Result<Source, Stop>
 #[tactic(auto, using(vd_cgrammar::specs::Laws::read_is))]
 pub(crate) fn right(alloc: Global, tokens: &mut Tokens<'_>) -> Result<Source, Stop>
     ensures reads { Reads (read Sort.Right tokens.old) result tokens.new }
-    ensures no_longer { length tokens.new ≤ length tokens.old }
+    ensures no_longer { OnOk result (length tokens.new ≤ length tokens.old) }
 {
     if tokens.sees(Class::Reserved) {
         special_source(alloc, tokens)
@@ -92,7 +92,7 @@ pub(crate) fn right(alloc: Global, tokens: &mut Tokens<'_>) -> Result<Source, St
 
 fn called_statement(alloc: Global, tokens: &mut Tokens<'_>) -> Result<Named, Stop>
     ensures reads { Reads (read_rule Rule.called_statement tokens.old) result tokens.new }
-    ensures no_longer { length tokens.new ≤ length tokens.old }
+    ensures no_longer { OnOk result (length tokens.new ≤ length tokens.old) }
 {
     tokens.take(Kind::LeftParen)?;
     let arguments = arguments(alloc, tokens)?;
@@ -102,7 +102,7 @@ fn called_statement(alloc: Global, tokens: &mut Tokens<'_>) -> Result<Named, Sto
 
 fn assigned_statement(alloc: Global, tokens: &mut Tokens<'_>) -> Result<Named, Stop>
     ensures reads { Reads (read_rule Rule.assigned_statement tokens.old) result tokens.new }
-    ensures no_longer { length tokens.new ≤ length tokens.old }
+    ensures no_longer { OnOk result (length tokens.new ≤ length tokens.old) }
 {
     let postfixes = postfixes(alloc, tokens)?;
     let operations = operations(alloc, tokens)?;
@@ -115,7 +115,7 @@ fn assigned_statement(alloc: Global, tokens: &mut Tokens<'_>) -> Result<Named, S
 #[tactic(auto, using(vd_cgrammar::specs::Laws::read_is))]
 pub(crate) fn after_name(alloc: Global, tokens: &mut Tokens<'_>) -> Result<Named, Stop>
     ensures reads { Reads (read Sort.AfterName tokens.old) result tokens.new }
-    ensures no_longer { length tokens.new ≤ length tokens.old }
+    ensures no_longer { OnOk result (length tokens.new ≤ length tokens.old) }
 {
     if tokens.sees(Class::One(Kind::LeftParen)) {
         called_statement(alloc, tokens)

@@ -22,7 +22,7 @@ fn more_arguments(
     first: List<Expr>,
 ) -> Result<List<Expr>, Stop>
     ensures reads { Reads (with_front first (read Sort.MoreArguments tokens.old)) result tokens.new }
-    ensures no_longer { length tokens.new ≤ length tokens.old }
+    ensures no_longer { OnOk result (length tokens.new ≤ length tokens.old) }
 {
     let mut found = first;
     'found: while !tokens.sees(Class::One(Kind::RightParen)) {
@@ -36,7 +36,7 @@ fn more_arguments(
 #[tactic(auto, using(vd_grammar::specs::Loops::fronts))]
 fn first_argument(alloc: Global, tokens: &mut Tokens<'_>) -> Result<List<Expr>, Stop>
     ensures reads { Reads (read_rule Rule.first_argument tokens.old) result tokens.new }
-    ensures no_longer { length tokens.new ≤ length tokens.old }
+    ensures no_longer { OnOk result (length tokens.new ≤ length tokens.old) }
 {
     let mut found = List::new(alloc);
     found.push(expression(alloc, tokens)?)?;
@@ -45,7 +45,7 @@ fn first_argument(alloc: Global, tokens: &mut Tokens<'_>) -> Result<List<Expr>, 
 
 fn no_argument(alloc: Global, tokens: &mut Tokens<'_>) -> Result<List<Expr>, Stop>
     ensures reads { Reads (read_rule Rule.no_argument tokens.old) result tokens.new }
-    ensures no_longer { length tokens.new ≤ length tokens.old }
+    ensures no_longer { OnOk result (length tokens.new ≤ length tokens.old) }
 {
     tokens.take(Kind::RightParen)?;
     Ok(List::new(alloc))
@@ -55,7 +55,7 @@ fn no_argument(alloc: Global, tokens: &mut Tokens<'_>) -> Result<List<Expr>, Sto
 #[tactic(auto, using(vd_cgrammar::specs::Laws::read_is))]
 pub(crate) fn arguments(alloc: Global, tokens: &mut Tokens<'_>) -> Result<List<Expr>, Stop>
     ensures reads { Reads (read Sort.Arguments tokens.old) result tokens.new }
-    ensures no_longer { length tokens.new ≤ length tokens.old }
+    ensures no_longer { OnOk result (length tokens.new ≤ length tokens.old) }
 {
     if tokens.sees(Class::One(Kind::RightParen)) {
         no_argument(alloc, tokens)
@@ -67,7 +67,6 @@ pub(crate) fn arguments(alloc: Global, tokens: &mut Tokens<'_>) -> Result<List<E
 /// `malloc` of the size of a type.
 fn malloc(alloc: Global, tokens: &mut Tokens<'_>) -> Result<Invocation, Stop>
     ensures reads { Reads (read_rule Rule.malloc tokens.old) result tokens.new }
-    ensures no_longer { length tokens.new ≤ length tokens.old }
     ensures shorter { OnOk result (length tokens.new < length tokens.old) }
 {
     let function = tokens.malloc()?;
@@ -93,7 +92,6 @@ fn malloc(alloc: Global, tokens: &mut Tokens<'_>) -> Result<Invocation, Stop>
 #[tactic(auto, using(vd_grammar::specs::Loops::fronts))]
 fn spawn(alloc: Global, tokens: &mut Tokens<'_>) -> Result<Invocation, Stop>
     ensures reads { Reads (read_rule Rule.spawn tokens.old) result tokens.new }
-    ensures no_longer { length tokens.new ≤ length tokens.old }
     ensures shorter { OnOk result (length tokens.new < length tokens.old) }
 {
     let function = tokens.spawn()?;
@@ -115,7 +113,6 @@ fn spawn(alloc: Global, tokens: &mut Tokens<'_>) -> Result<Invocation, Stop>
 
 fn library(alloc: Global, tokens: &mut Tokens<'_>) -> Result<Invocation, Stop>
     ensures reads { Reads (read_rule Rule.library tokens.old) result tokens.new }
-    ensures no_longer { length tokens.new ≤ length tokens.old }
     ensures shorter { OnOk result (length tokens.new < length tokens.old) }
 {
     let function = tokens.library()?;
@@ -132,7 +129,6 @@ fn library(alloc: Global, tokens: &mut Tokens<'_>) -> Result<Invocation, Stop>
 #[tactic(auto, using(vd_cgrammar::specs::Laws::read_is))]
 pub(crate) fn special(alloc: Global, tokens: &mut Tokens<'_>) -> Result<Invocation, Stop>
     ensures reads { Reads (read Sort.Special tokens.old) result tokens.new }
-    ensures no_longer { length tokens.new ≤ length tokens.old }
     ensures shorter { OnOk result (length tokens.new < length tokens.old) }
 {
     if tokens.sees(Class::One(Kind::Malloc)) {

@@ -1,6 +1,6 @@
 //! Structs and globals.
 
-ghost use Rattle.std.specs.Prelude.{◌≡◌, ◌≤◌, ◌<◌, true, length, IfOk};
+ghost use Rattle.std.specs.Prelude.{◌≡◌, ◌≤◌, ◌<◌, true, length, IfOk, OnOk};
 ghost use Rattle.vd_grammar.specs.Outcome.{with_front};
 ghost use Rattle.vd_grammar.specs.Reads.{Reads};
 ghost use Rattle.vd_cgrammar.specs.Grammar.{Sort, Rule};
@@ -18,7 +18,7 @@ use vd_grammar::Stop;
 
 fn written_length(tokens: &mut Tokens<'_>) -> Result<Option<u32>, Stop>
     ensures reads { Reads (read_rule Rule.length tokens.old) result tokens.new }
-    ensures no_longer { length tokens.new ≤ length tokens.old }
+    ensures no_longer { OnOk result (length tokens.new ≤ length tokens.old) }
 {
     tokens.take(Kind::LeftBracket)?;
     let number = tokens.take(Kind::Length)?;
@@ -30,7 +30,7 @@ fn written_length(tokens: &mut Tokens<'_>) -> Result<Option<u32>, Stop>
 #[tactic(auto, using(vd_cgrammar::specs::Laws::read_is))]
 fn array_length(tokens: &mut Tokens<'_>) -> Result<Option<u32>, Stop>
     ensures reads { Reads (read Sort.Length tokens.old) result tokens.new }
-    ensures no_longer { length tokens.new ≤ length tokens.old }
+    ensures no_longer { OnOk result (length tokens.new ≤ length tokens.old) }
 {
     if tokens.sees(Class::One(Kind::LeftBracket)) {
         written_length(tokens)
@@ -52,7 +52,6 @@ fn array_of(alloc: Global, count: Option<u32>, typ: CType) -> Result<CType, Allo
 #[tactic(auto, using(vd_cgrammar::specs::Laws::read_is, vd_grammar::specs::Loops::fronts))]
 fn fields(alloc: Global, tokens: &mut Tokens<'_>) -> Result<List<Field>, Stop>
     ensures reads { Reads (read Sort.Fields tokens.old) result tokens.new }
-    ensures no_longer { length tokens.new ≤ length tokens.old }
 {
     let mut found = List::new(alloc);
     'found: while !tokens.sees(Class::One(Kind::RightBrace)) {
@@ -71,7 +70,6 @@ fn fields(alloc: Global, tokens: &mut Tokens<'_>) -> Result<List<Field>, Stop>
 /// By its only rule; what is proved of the phrase needs the choice of a rule, and is proved at one call.
 fn struct_rule(alloc: Global, tokens: &mut Tokens<'_>) -> Result<Decl, Stop>
     ensures reads { Reads (read_rule Rule.struct_section tokens.old) result tokens.new }
-    ensures no_longer { length tokens.new ≤ length tokens.old }
 {
     tokens.take(Kind::Struct)?;
     let name = tokens.own_name()?;
@@ -86,14 +84,13 @@ fn struct_rule(alloc: Global, tokens: &mut Tokens<'_>) -> Result<Decl, Stop>
 #[tactic(auto, using(vd_cgrammar::specs::Laws::read_is))]
 pub fn struct_section(alloc: Global, tokens: &mut Tokens<'_>) -> Result<Decl, Stop>
     ensures reads { Reads (read Sort.StructSection tokens.old) result tokens.new }
-    ensures no_longer { length tokens.new ≤ length tokens.old }
 {
     struct_rule(alloc, tokens)
 }
 
 fn positive_value(tokens: &mut Tokens<'_>) -> Result<Init, Stop>
     ensures reads { Reads (read_rule Rule.positive_value tokens.old) result tokens.new }
-    ensures no_longer { length tokens.new ≤ length tokens.old }
+    ensures no_longer { OnOk result (length tokens.new ≤ length tokens.old) }
 {
     let number = tokens.expect(Class::AnyNumber)?;
     Ok(Init::Int(number.value))
@@ -111,7 +108,7 @@ fn negative(number: u32) -> u32
 
 fn negative_value(tokens: &mut Tokens<'_>) -> Result<Init, Stop>
     ensures reads { Reads (read_rule Rule.negative_value tokens.old) result tokens.new }
-    ensures no_longer { length tokens.new ≤ length tokens.old }
+    ensures no_longer { OnOk result (length tokens.new ≤ length tokens.old) }
 {
     tokens.take(Kind::Minus)?;
     let number = tokens.expect(Class::AnyNumber)?;
@@ -120,7 +117,7 @@ fn negative_value(tokens: &mut Tokens<'_>) -> Result<Init, Stop>
 
 fn address_value(alloc: Global, tokens: &mut Tokens<'_>) -> Result<Init, Stop>
     ensures reads { Reads (read_rule Rule.address_value tokens.old) result tokens.new }
-    ensures no_longer { length tokens.new ≤ length tokens.old }
+    ensures no_longer { OnOk result (length tokens.new ≤ length tokens.old) }
 {
     tokens.take(Kind::And)?;
     let name = tokens.name()?;
@@ -131,7 +128,7 @@ fn address_value(alloc: Global, tokens: &mut Tokens<'_>) -> Result<Init, Stop>
 #[tactic(auto, using(vd_cgrammar::specs::Laws::read_is))]
 fn init_value(alloc: Global, tokens: &mut Tokens<'_>) -> Result<Init, Stop>
     ensures reads { Reads (read Sort.InitValue tokens.old) result tokens.new }
-    ensures no_longer { length tokens.new ≤ length tokens.old }
+    ensures no_longer { OnOk result (length tokens.new ≤ length tokens.old) }
 {
     if tokens.sees(Class::AnyNumber) {
         positive_value(tokens)
@@ -159,7 +156,6 @@ fn more_values(
     first: List<Init>,
 ) -> Result<List<Init>, Stop>
     ensures reads { Reads (with_front first (read (Sort.MoreValues most) tokens.old)) result tokens.new }
-    ensures no_longer { length tokens.new ≤ length tokens.old }
 {
     let mut found = first;
     let mut left = most;
@@ -175,7 +171,6 @@ fn more_values(
 #[tactic(auto, using(vd_grammar::specs::Loops::fronts))]
 fn several_values(alloc: Global, tokens: &mut Tokens<'_>) -> Result<List<Init>, Stop>
     ensures reads { Reads (read_rule Rule.several_values tokens.old) result tokens.new }
-    ensures no_longer { length tokens.new ≤ length tokens.old }
 {
     tokens.take(Kind::LeftBrace)?;
     let mut found = List::new(alloc);
@@ -185,7 +180,6 @@ fn several_values(alloc: Global, tokens: &mut Tokens<'_>) -> Result<List<Init>, 
 
 fn one_value(alloc: Global, tokens: &mut Tokens<'_>) -> Result<List<Init>, Stop>
     ensures reads { Reads (read_rule Rule.one_value tokens.old) result tokens.new }
-    ensures no_longer { length tokens.new ≤ length tokens.old }
 {
     let value = init_value(alloc, tokens)?;
     let mut found = List::new(alloc);
@@ -197,7 +191,6 @@ fn one_value(alloc: Global, tokens: &mut Tokens<'_>) -> Result<List<Init>, Stop>
 #[tactic(auto, using(vd_cgrammar::specs::Laws::read_is))]
 fn initials(alloc: Global, tokens: &mut Tokens<'_>) -> Result<List<Init>, Stop>
     ensures reads { Reads (read Sort.Initials tokens.old) result tokens.new }
-    ensures no_longer { length tokens.new ≤ length tokens.old }
 {
     if tokens.sees(Class::One(Kind::LeftBrace)) {
         several_values(alloc, tokens)
@@ -208,7 +201,6 @@ fn initials(alloc: Global, tokens: &mut Tokens<'_>) -> Result<List<Init>, Stop>
 
 fn written_initial(alloc: Global, tokens: &mut Tokens<'_>) -> Result<List<Init>, Stop>
     ensures reads { Reads (read_rule Rule.initial tokens.old) result tokens.new }
-    ensures no_longer { length tokens.new ≤ length tokens.old }
 {
     tokens.take(Kind::Assign)?;
     initials(alloc, tokens)
@@ -218,7 +210,6 @@ fn written_initial(alloc: Global, tokens: &mut Tokens<'_>) -> Result<List<Init>,
 #[tactic(auto, using(vd_cgrammar::specs::Laws::read_is))]
 fn initial(alloc: Global, tokens: &mut Tokens<'_>) -> Result<List<Init>, Stop>
     ensures reads { Reads (read Sort.Initial tokens.old) result tokens.new }
-    ensures no_longer { length tokens.new ≤ length tokens.old }
 {
     if tokens.sees(Class::One(Kind::Assign)) {
         written_initial(alloc, tokens)
@@ -229,7 +220,6 @@ fn initial(alloc: Global, tokens: &mut Tokens<'_>) -> Result<List<Init>, Stop>
 
 fn global_rule(alloc: Global, tokens: &mut Tokens<'_>) -> Result<Decl, Stop>
     ensures reads { Reads (read_rule Rule.global_section tokens.old) result tokens.new }
-    ensures no_longer { length tokens.new ≤ length tokens.old }
 {
     let typ = hold(ctype(alloc, tokens)?);
     let name = tokens.own_name()?;
@@ -247,7 +237,6 @@ fn global_rule(alloc: Global, tokens: &mut Tokens<'_>) -> Result<Decl, Stop>
 #[tactic(auto, using(vd_cgrammar::specs::Laws::read_is))]
 pub fn global_section(alloc: Global, tokens: &mut Tokens<'_>) -> Result<Decl, Stop>
     ensures reads { Reads (read Sort.GlobalSection tokens.old) result tokens.new }
-    ensures no_longer { length tokens.new ≤ length tokens.old }
 {
     global_rule(alloc, tokens)
 }

@@ -20,7 +20,7 @@ use vd_grammar::Stop;
 #[cycle(expression)]
 fn prefix(alloc: Global, tokens: &mut Tokens<'_>) -> Result<Expr, Stop>
     ensures reads { Reads (read_rule Rule.prefix tokens.old) result tokens.new }
-    ensures no_longer { length tokens.new ≤ length tokens.old }
+    ensures no_longer { OnOk result (length tokens.new ≤ length tokens.old) }
 {
     let operator = tokens.expect(Class::Prefix)?;
     let operand = unary(alloc, tokens)?;
@@ -34,7 +34,7 @@ fn prefix(alloc: Global, tokens: &mut Tokens<'_>) -> Result<Expr, Stop>
 /// `sizeof` or `alignof` of a type.
 fn measure(alloc: Global, tokens: &mut Tokens<'_>) -> Result<Expr, Stop>
     ensures reads { Reads (read_rule Rule.measure tokens.old) result tokens.new }
-    ensures no_longer { length tokens.new ≤ length tokens.old }
+    ensures no_longer { OnOk result (length tokens.new ≤ length tokens.old) }
 {
     let word = tokens.expect(Class::Measure)?;
     tokens.take(Kind::LeftParen)?;
@@ -49,7 +49,7 @@ fn measure(alloc: Global, tokens: &mut Tokens<'_>) -> Result<Expr, Stop>
 #[cycle(expression)]
 fn number(alloc: Global, tokens: &mut Tokens<'_>) -> Result<Expr, Stop>
     ensures reads { Reads (read_rule Rule.number tokens.old) result tokens.new }
-    ensures no_longer { length tokens.new ≤ length tokens.old }
+    ensures no_longer { OnOk result (length tokens.new ≤ length tokens.old) }
 {
     let number = tokens.expect(Class::AnyNumber)?;
     let others = postfixes(alloc, tokens)?;
@@ -60,7 +60,7 @@ fn number(alloc: Global, tokens: &mut Tokens<'_>) -> Result<Expr, Stop>
 #[cycle(expression)]
 fn name(alloc: Global, tokens: &mut Tokens<'_>) -> Result<Expr, Stop>
     ensures reads { Reads (read_rule Rule.name tokens.old) result tokens.new }
-    ensures no_longer { length tokens.new ≤ length tokens.old }
+    ensures no_longer { OnOk result (length tokens.new ≤ length tokens.old) }
 {
     let name = tokens.name()?;
     let others = postfixes(alloc, tokens)?;
@@ -72,7 +72,7 @@ fn name(alloc: Global, tokens: &mut Tokens<'_>) -> Result<Expr, Stop>
 #[cycle(expression)]
 fn paren(alloc: Global, tokens: &mut Tokens<'_>) -> Result<Expr, Stop>
     ensures reads { Reads (read_rule Rule.paren tokens.old) result tokens.new }
-    ensures no_longer { length tokens.new ≤ length tokens.old }
+    ensures no_longer { OnOk result (length tokens.new ≤ length tokens.old) }
 {
     let bracket = tokens.take(Kind::LeftParen)?;
     let inner = after_paren(alloc, tokens)?;
@@ -84,7 +84,7 @@ fn paren(alloc: Global, tokens: &mut Tokens<'_>) -> Result<Expr, Stop>
 #[tactic(auto, using(vd_cgrammar::specs::Laws::read_is))]
 pub(crate) fn plain(alloc: Global, tokens: &mut Tokens<'_>) -> Result<Expr, Stop>
     ensures reads { Reads (read Sort.Plain tokens.old) result tokens.new }
-    ensures no_longer { length tokens.new ≤ length tokens.old }
+    ensures no_longer { OnOk result (length tokens.new ≤ length tokens.old) }
 {
     if tokens.sees(Class::Prefix) {
         prefix(alloc, tokens)
@@ -102,7 +102,7 @@ pub(crate) fn plain(alloc: Global, tokens: &mut Tokens<'_>) -> Result<Expr, Stop
 #[tactic(auto, using(vd_cgrammar::specs::Laws::read_is))]
 fn unary(alloc: Global, tokens: &mut Tokens<'_>) -> Result<Expr, Stop>
     ensures reads { Reads (read Sort.Unary tokens.old) result tokens.new }
-    ensures no_longer { length tokens.new ≤ length tokens.old }
+    ensures no_longer { OnOk result (length tokens.new ≤ length tokens.old) }
 {
     if tokens.sees(Class::AnyName) {
         name(alloc, tokens)
@@ -114,7 +114,7 @@ fn unary(alloc: Global, tokens: &mut Tokens<'_>) -> Result<Expr, Stop>
 #[cycle(expression)]
 fn cast(alloc: Global, tokens: &mut Tokens<'_>) -> Result<Enclosed, Stop>
     ensures reads { Reads (read_rule Rule.cast tokens.old) result tokens.new }
-    ensures no_longer { length tokens.new ≤ length tokens.old }
+    ensures no_longer { OnOk result (length tokens.new ≤ length tokens.old) }
 {
     let typ = hold(ctype(alloc, tokens)?);
     tokens.take(Kind::RightParen)?;
@@ -125,7 +125,7 @@ fn cast(alloc: Global, tokens: &mut Tokens<'_>) -> Result<Enclosed, Stop>
 #[cycle(expression)]
 fn brackets(alloc: Global, tokens: &mut Tokens<'_>) -> Result<Enclosed, Stop>
     ensures reads { Reads (read_rule Rule.brackets tokens.old) result tokens.new }
-    ensures no_longer { length tokens.new ≤ length tokens.old }
+    ensures no_longer { OnOk result (length tokens.new ≤ length tokens.old) }
 {
     let inner = hold(expression(alloc, tokens)?);
     tokens.take(Kind::RightParen)?;
@@ -138,7 +138,7 @@ fn brackets(alloc: Global, tokens: &mut Tokens<'_>) -> Result<Enclosed, Stop>
 #[tactic(auto, using(vd_cgrammar::specs::Laws::read_is))]
 fn after_paren(alloc: Global, tokens: &mut Tokens<'_>) -> Result<Enclosed, Stop>
     ensures reads { Reads (read Sort.AfterParen tokens.old) result tokens.new }
-    ensures no_longer { length tokens.new ≤ length tokens.old }
+    ensures no_longer { OnOk result (length tokens.new ≤ length tokens.old) }
 {
     if tokens.sees(Class::TypeWord) {
         cast(alloc, tokens)
@@ -152,7 +152,7 @@ fn after_paren(alloc: Global, tokens: &mut Tokens<'_>) -> Result<Enclosed, Stop>
 #[tactic(auto, using(vd_cgrammar::specs::Laws::read_is, vd_grammar::specs::Loops::fronts))]
 pub(crate) fn postfixes(alloc: Global, tokens: &mut Tokens<'_>) -> Result<List<Postfix>, Stop>
     ensures reads { Reads (read Sort.Postfixes tokens.old) result tokens.new }
-    ensures no_longer { length tokens.new ≤ length tokens.old }
+    ensures no_longer { OnOk result (length tokens.new ≤ length tokens.old) }
 {
     let mut found = List::new(alloc);
     'found: loop {
@@ -177,7 +177,7 @@ pub(crate) fn postfixes(alloc: Global, tokens: &mut Tokens<'_>) -> Result<List<P
 #[tactic(auto, using(vd_cgrammar::specs::Laws::read_is, vd_grammar::specs::Loops::fronts))]
 pub(crate) fn operations(alloc: Global, tokens: &mut Tokens<'_>) -> Result<List<(Kind, Expr)>, Stop>
     ensures reads { Reads (read Sort.Operations tokens.old) result tokens.new }
-    ensures no_longer { length tokens.new ≤ length tokens.old }
+    ensures no_longer { OnOk result (length tokens.new ≤ length tokens.old) }
 {
     let mut found = List::new(alloc);
     'found: while tokens.sees(Class::Binary) {
@@ -191,7 +191,7 @@ pub(crate) fn operations(alloc: Global, tokens: &mut Tokens<'_>) -> Result<List<
 #[cycle(expression)]
 fn expression_rule(alloc: Global, tokens: &mut Tokens<'_>) -> Result<Expr, Stop>
     ensures reads { Reads (read_rule Rule.expression tokens.old) result tokens.new }
-    ensures no_longer { length tokens.new ≤ length tokens.old }
+    ensures no_longer { OnOk result (length tokens.new ≤ length tokens.old) }
 {
     let first = hold(unary(alloc, tokens)?);
     let others = operations(alloc, tokens)?;
@@ -202,7 +202,7 @@ fn expression_rule(alloc: Global, tokens: &mut Tokens<'_>) -> Result<Expr, Stop>
 #[tactic(auto, using(vd_cgrammar::specs::Laws::read_is))]
 pub(crate) fn expression(alloc: Global, tokens: &mut Tokens<'_>) -> Result<Expr, Stop>
     ensures reads { Reads (read Sort.Expression tokens.old) result tokens.new }
-    ensures no_longer { length tokens.new ≤ length tokens.old }
+    ensures no_longer { OnOk result (length tokens.new ≤ length tokens.old) }
 {
     expression_rule(alloc, tokens)
 }

@@ -17,7 +17,6 @@ use vd_grammar::Stop;
 /// By its only rule; what is proved of the phrase needs the choice of a rule, and is proved at one call.
 fn function_rule(alloc: Global, tokens: &mut Tokens<'_>) -> Result<FnText, Stop>
     ensures reads { Reads (read_rule Rule.function tokens.old) result tokens.new }
-    ensures no_longer { length tokens.new ≤ length tokens.old }
 {
     let ret = hold(ctype(alloc, tokens)?);
     let name = tokens.own_name()?;
@@ -39,14 +38,12 @@ fn function_rule(alloc: Global, tokens: &mut Tokens<'_>) -> Result<FnText, Stop>
 #[tactic(auto, using(vd_cgrammar::specs::Laws::read_is))]
 fn function(alloc: Global, tokens: &mut Tokens<'_>) -> Result<FnText, Stop>
     ensures reads { Reads (read Sort.Function tokens.old) result tokens.new }
-    ensures no_longer { length tokens.new ≤ length tokens.old }
 {
     function_rule(alloc, tokens)
 }
 
 fn section_rule(alloc: Global, tokens: &mut Tokens<'_>) -> Result<FnText, Stop>
     ensures reads { Reads (read_rule Rule.fn_section tokens.old) result tokens.new }
-    ensures no_longer { length tokens.new ≤ length tokens.old }
 {
     let function = hold(function(alloc, tokens)?);
     tokens.take(Kind::EndLine)?;
@@ -57,7 +54,6 @@ fn section_rule(alloc: Global, tokens: &mut Tokens<'_>) -> Result<FnText, Stop>
 #[tactic(auto, using(vd_cgrammar::specs::Laws::read_is))]
 pub fn fn_section(alloc: Global, tokens: &mut Tokens<'_>) -> Result<FnText, Stop>
     ensures reads { Reads (read Sort.FnSection tokens.old) result tokens.new }
-    ensures no_longer { length tokens.new ≤ length tokens.old }
 {
     section_rule(alloc, tokens)
 }

@@ -20,7 +20,6 @@ fn more_parameters(
     first: List<Field>,
 ) -> Result<List<Field>, Stop>
     ensures reads { Reads (with_front first (read Sort.MoreParameters tokens.old)) result tokens.new }
-    ensures no_longer { length tokens.new ≤ length tokens.old }
 {
     let mut found = first;
     'found: while !tokens.sees(Class::One(Kind::RightParen)) {
@@ -38,7 +37,6 @@ fn more_parameters(
 #[tactic(auto, using(vd_grammar::specs::Loops::fronts))]
 fn void_parameter(alloc: Global, tokens: &mut Tokens<'_>) -> Result<List<Field>, Stop>
     ensures reads { Reads (read_rule Rule.void_parameter tokens.old) result tokens.new }
-    ensures no_longer { length tokens.new ≤ length tokens.old }
 {
     let typ = hold(void_type(alloc, tokens)?);
     let name = tokens.name()?;
@@ -51,7 +49,6 @@ fn void_parameter(alloc: Global, tokens: &mut Tokens<'_>) -> Result<List<Field>,
 
 fn no_parameter(alloc: Global, tokens: &mut Tokens<'_>) -> Result<List<Field>, Stop>
     ensures reads { Reads (read_rule Rule.no_parameter tokens.old) result tokens.new }
-    ensures no_longer { length tokens.new ≤ length tokens.old }
 {
     tokens.take(Kind::RightParen)?;
     Ok(List::new(alloc))
@@ -61,7 +58,6 @@ fn no_parameter(alloc: Global, tokens: &mut Tokens<'_>) -> Result<List<Field>, S
 #[tactic(auto, using(vd_cgrammar::specs::Laws::read_is))]
 fn after_void(alloc: Global, tokens: &mut Tokens<'_>) -> Result<List<Field>, Stop>
     ensures reads { Reads (read Sort.AfterVoid tokens.old) result tokens.new }
-    ensures no_longer { length tokens.new ≤ length tokens.old }
 {
     if tokens.sees(Class::One(Kind::RightParen)) {
         no_parameter(alloc, tokens)
@@ -72,7 +68,6 @@ fn after_void(alloc: Global, tokens: &mut Tokens<'_>) -> Result<List<Field>, Sto
 
 fn void_first(alloc: Global, tokens: &mut Tokens<'_>) -> Result<List<Field>, Stop>
     ensures reads { Reads (read_rule Rule.void_first tokens.old) result tokens.new }
-    ensures no_longer { length tokens.new ≤ length tokens.old }
 {
     tokens.take(Kind::Void)?;
     after_void(alloc, tokens)
@@ -81,7 +76,6 @@ fn void_first(alloc: Global, tokens: &mut Tokens<'_>) -> Result<List<Field>, Sto
 #[tactic(auto, using(vd_grammar::specs::Loops::fronts))]
 fn filled_first(alloc: Global, tokens: &mut Tokens<'_>) -> Result<List<Field>, Stop>
     ensures reads { Reads (read_rule Rule.filled_first tokens.old) result tokens.new }
-    ensures no_longer { length tokens.new ≤ length tokens.old }
 {
     let typ = hold(filled(alloc, tokens)?);
     let name = tokens.name()?;
@@ -96,7 +90,6 @@ fn filled_first(alloc: Global, tokens: &mut Tokens<'_>) -> Result<List<Field>, S
 #[tactic(auto, using(vd_cgrammar::specs::Laws::read_is))]
 pub(crate) fn parameters(alloc: Global, tokens: &mut Tokens<'_>) -> Result<List<Field>, Stop>
     ensures reads { Reads (read Sort.Parameters tokens.old) result tokens.new }
-    ensures no_longer { length tokens.new ≤ length tokens.old }
 {
     if tokens.sees(Class::One(Kind::Void)) {
         void_first(alloc, tokens)
@@ -109,7 +102,6 @@ pub(crate) fn parameters(alloc: Global, tokens: &mut Tokens<'_>) -> Result<List<
 #[tactic(auto, using(vd_cgrammar::specs::Laws::read_is, vd_grammar::specs::Loops::fronts))]
 pub(crate) fn declarations(alloc: Global, tokens: &mut Tokens<'_>) -> Result<List<Field>, Stop>
     ensures reads { Reads (read Sort.Declarations tokens.old) result tokens.new }
-    ensures no_longer { length tokens.new ≤ length tokens.old }
 {
     let mut found = List::new(alloc);
     'found: while tokens.sees(Class::TypeWord) {

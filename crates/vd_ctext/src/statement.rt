@@ -18,7 +18,6 @@ use vd_grammar::Stop;
 
 fn skip(tokens: &mut Tokens<'_>, inside: bool) -> Result<Stmt, Stop>
     ensures reads { Reads (read_rule (Rule.skip {inside = inside}) tokens.old) result tokens.new }
-    ensures no_longer { length tokens.new ≤ length tokens.old }
     ensures shorter { OnOk result (length tokens.new < length tokens.old) }
 {
     let sign = tokens.take(Kind::Semicolon)?;
@@ -30,7 +29,7 @@ fn skip(tokens: &mut Tokens<'_>, inside: bool) -> Result<Stmt, Stop>
 
 fn no_value(tokens: &mut Tokens<'_>) -> Result<Option<Expr>, Stop>
     ensures reads { Reads (read_rule Rule.no_value tokens.old) result tokens.new }
-    ensures no_longer { length tokens.new ≤ length tokens.old }
+    ensures no_longer { OnOk result (length tokens.new ≤ length tokens.old) }
 {
     tokens.take(Kind::Semicolon)?;
     Ok(None)
@@ -38,7 +37,7 @@ fn no_value(tokens: &mut Tokens<'_>) -> Result<Option<Expr>, Stop>
 
 fn some_value(alloc: Global, tokens: &mut Tokens<'_>) -> Result<Option<Expr>, Stop>
     ensures reads { Reads (read_rule Rule.value tokens.old) result tokens.new }
-    ensures no_longer { length tokens.new ≤ length tokens.old }
+    ensures no_longer { OnOk result (length tokens.new ≤ length tokens.old) }
 {
     let value = hold(expression(alloc, tokens)?);
     tokens.take(Kind::Semicolon)?;
@@ -49,7 +48,7 @@ fn some_value(alloc: Global, tokens: &mut Tokens<'_>) -> Result<Option<Expr>, St
 #[tactic(auto, using(vd_cgrammar::specs::Laws::read_is))]
 fn returned(alloc: Global, tokens: &mut Tokens<'_>) -> Result<Option<Expr>, Stop>
     ensures reads { Reads (read Sort.Returned tokens.old) result tokens.new }
-    ensures no_longer { length tokens.new ≤ length tokens.old }
+    ensures no_longer { OnOk result (length tokens.new ≤ length tokens.old) }
 {
     if tokens.sees(Class::One(Kind::Semicolon)) {
         no_value(tokens)
@@ -60,7 +59,6 @@ fn returned(alloc: Global, tokens: &mut Tokens<'_>) -> Result<Option<Expr>, Stop
 
 fn return_statement(alloc: Global, tokens: &mut Tokens<'_>, inside: bool) -> Result<Stmt, Stop>
     ensures reads { Reads (read_rule (Rule.return {inside = inside}) tokens.old) result tokens.new }
-    ensures no_longer { length tokens.new ≤ length tokens.old }
     ensures shorter { OnOk result (length tokens.new < length tokens.old) }
 {
     let word = tokens.take(Kind::Return)?;
@@ -73,7 +71,6 @@ fn return_statement(alloc: Global, tokens: &mut Tokens<'_>, inside: bool) -> Res
 
 fn special_statement(alloc: Global, tokens: &mut Tokens<'_>, inside: bool) -> Result<Stmt, Stop>
     ensures reads { Reads (read_rule (Rule.special_statement {inside = inside}) tokens.old) result tokens.new }
-    ensures no_longer { length tokens.new ≤ length tokens.old }
     ensures shorter { OnOk result (length tokens.new < length tokens.old) }
 {
     let call = hold(special(alloc, tokens)?);
@@ -87,7 +84,6 @@ fn special_statement(alloc: Global, tokens: &mut Tokens<'_>, inside: bool) -> Re
 
 fn named_statement(alloc: Global, tokens: &mut Tokens<'_>, inside: bool) -> Result<Stmt, Stop>
     ensures reads { Reads (read_rule (Rule.named_statement {inside = inside}) tokens.old) result tokens.new }
-    ensures no_longer { length tokens.new ≤ length tokens.old }
     ensures shorter { OnOk result (length tokens.new < length tokens.old) }
 {
     let token = tokens.name()?;
@@ -99,7 +95,6 @@ fn named_statement(alloc: Global, tokens: &mut Tokens<'_>, inside: bool) -> Resu
 /// An assignment whose left side does not begin with a name.
 fn other_statement(alloc: Global, tokens: &mut Tokens<'_>, inside: bool) -> Result<Stmt, Stop>
     ensures reads { Reads (read_rule (Rule.other_statement {inside = inside}) tokens.old) result tokens.new }
-    ensures no_longer { length tokens.new ≤ length tokens.old }
     ensures shorter { OnOk result (length tokens.new < length tokens.old) }
 {
     let first = hold(plain(alloc, tokens)?);
@@ -112,7 +107,6 @@ fn other_statement(alloc: Global, tokens: &mut Tokens<'_>, inside: bool) -> Resu
 
 fn jump(tokens: &mut Tokens<'_>) -> Result<Stmt, Stop>
     ensures reads { Reads (read_rule Rule.jump tokens.old) result tokens.new }
-    ensures no_longer { length tokens.new ≤ length tokens.old }
     ensures shorter { OnOk result (length tokens.new < length tokens.old) }
 {
     let word = tokens.expect(Class::Jump)?;
@@ -126,7 +120,6 @@ fn jump(tokens: &mut Tokens<'_>) -> Result<Stmt, Stop>
 /// A statement that begins with no name and no word of its own.
 fn last_statement(alloc: Global, tokens: &mut Tokens<'_>, inside: bool) -> Result<Stmt, Stop>
     ensures reads { Reads (by_choice grammar read (last_choice inside (kind_of tokens.old)) tokens.old) result tokens.new }
-    ensures no_longer { length tokens.new ≤ length tokens.old }
     ensures shorter { OnOk result (length tokens.new < length tokens.old) }
 {
     if inside {
@@ -143,7 +136,6 @@ fn last_statement(alloc: Global, tokens: &mut Tokens<'_>, inside: bool) -> Resul
 /// A statement that begins with no keyword but `break` or `continue`.
 fn wordless_statement(alloc: Global, tokens: &mut Tokens<'_>, inside: bool) -> Result<Stmt, Stop>
     ensures reads { Reads (by_choice grammar read (wordless_choice inside (kind_of tokens.old)) tokens.old) result tokens.new }
-    ensures no_longer { length tokens.new ≤ length tokens.old }
     ensures shorter { OnOk result (length tokens.new < length tokens.old) }
 {
     if tokens.sees(Class::AnyName) {
@@ -158,7 +150,6 @@ fn wordless_statement(alloc: Global, tokens: &mut Tokens<'_>, inside: bool) -> R
 #[cycle(statement)]
 fn if_else(alloc: Global, tokens: &mut Tokens<'_>, inside: bool) -> Result<Stmt, Stop>
     ensures reads { Reads (read_rule (Rule.if_else {inside = inside}) tokens.old) result tokens.new }
-    ensures no_longer { length tokens.new ≤ length tokens.old }
     ensures shorter { OnOk result (length tokens.new < length tokens.old) }
 {
     let word = tokens.take(Kind::If)?;
@@ -176,7 +167,7 @@ fn if_else(alloc: Global, tokens: &mut Tokens<'_>, inside: bool) -> Result<Stmt,
 #[cycle(statement)]
 fn else_block(alloc: Global, tokens: &mut Tokens<'_>, inside: bool) -> Result<List<Stmt>, Stop>
     ensures reads { Reads (read_rule (Rule.else_block {inside = inside}) tokens.old) result tokens.new }
-    ensures no_longer { length tokens.new ≤ length tokens.old }
+    ensures no_longer { OnOk result (length tokens.new ≤ length tokens.old) }
 {
     tokens.take(Kind::Else)?;
     block(alloc, tokens, inside)
@@ -186,7 +177,7 @@ fn else_block(alloc: Global, tokens: &mut Tokens<'_>, inside: bool) -> Result<Li
 #[tactic(auto, using(vd_cgrammar::specs::Laws::read_is))]
 fn otherwise(alloc: Global, tokens: &mut Tokens<'_>, inside: bool) -> Result<List<Stmt>, Stop>
     ensures reads { Reads (read (Sort.Otherwise inside) tokens.old) result tokens.new }
-    ensures no_longer { length tokens.new ≤ length tokens.old }
+    ensures no_longer { OnOk result (length tokens.new ≤ length tokens.old) }
 {
     if tokens.sees(Class::One(Kind::Else)) {
         else_block(alloc, tokens, inside)
@@ -198,7 +189,6 @@ fn otherwise(alloc: Global, tokens: &mut Tokens<'_>, inside: bool) -> Result<Lis
 #[cycle(statement)]
 fn while_loop(alloc: Global, tokens: &mut Tokens<'_>, inside: bool) -> Result<Stmt, Stop>
     ensures reads { Reads (read_rule (Rule.while {inside = inside}) tokens.old) result tokens.new }
-    ensures no_longer { length tokens.new ≤ length tokens.old }
     ensures shorter { OnOk result (length tokens.new < length tokens.old) }
 {
     let word = tokens.take(Kind::While)?;
@@ -215,7 +205,7 @@ fn while_loop(alloc: Global, tokens: &mut Tokens<'_>, inside: bool) -> Result<St
 #[cycle(statement)]
 fn block_rule(alloc: Global, tokens: &mut Tokens<'_>, inside: bool) -> Result<List<Stmt>, Stop>
     ensures reads { Reads (read_rule (Rule.block {inside = inside}) tokens.old) result tokens.new }
-    ensures no_longer { length tokens.new ≤ length tokens.old }
+    ensures no_longer { OnOk result (length tokens.new ≤ length tokens.old) }
 {
     tokens.take(Kind::LeftBrace)?;
     statements(alloc, tokens, inside)
@@ -225,7 +215,7 @@ fn block_rule(alloc: Global, tokens: &mut Tokens<'_>, inside: bool) -> Result<Li
 #[tactic(auto, using(vd_cgrammar::specs::Laws::read_is))]
 fn block(alloc: Global, tokens: &mut Tokens<'_>, inside: bool) -> Result<List<Stmt>, Stop>
     ensures reads { Reads (read (Sort.Block inside) tokens.old) result tokens.new }
-    ensures no_longer { length tokens.new ≤ length tokens.old }
+    ensures no_longer { OnOk result (length tokens.new ≤ length tokens.old) }
 {
     block_rule(alloc, tokens, inside)
 }
@@ -234,7 +224,6 @@ fn block(alloc: Global, tokens: &mut Tokens<'_>, inside: bool) -> Result<List<St
 #[tactic(auto, using(vd_cgrammar::specs::Laws::read_is))]
 fn statement(alloc: Global, tokens: &mut Tokens<'_>, inside: bool) -> Result<Stmt, Stop>
     ensures reads { Reads (read (Sort.Statement inside) tokens.old) result tokens.new }
-    ensures no_longer { length tokens.new ≤ length tokens.old }
     ensures shorter { OnOk result (length tokens.new < length tokens.old) }
 {
     if tokens.sees(Class::One(Kind::Semicolon)) {
@@ -259,7 +248,7 @@ pub(crate) fn statements(
     inside: bool,
 ) -> Result<List<Stmt>, Stop>
     ensures reads { Reads (read (Sort.Statements inside) tokens.old) result tokens.new }
-    ensures no_longer { length tokens.new ≤ length tokens.old }
+    ensures no_longer { OnOk result (length tokens.new ≤ length tokens.old) }
 {
     let mut found = List::new(alloc);
     'found: while !tokens.sees(Class::One(Kind::RightBrace)) {

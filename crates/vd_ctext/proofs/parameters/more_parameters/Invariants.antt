@@ -1,11 +1,11 @@
-use Rattle.std.proofs.Common.{◌≡◌, length, ◌≤◌}
+use Rattle.std.proofs.Common.{◌≡◌, length}
 use Rattle.vd_grammar.specs.Outcome.{with_front}
 use Rattle.vd_cgrammar.specs.Grammar.{MoreParameters}
 use Rattle.vd_cgrammar.specs.Read.{read}
 use Rattle.vd_ctext.proofs.parameters.more_parameters.Given as goal
 
 abbrev pub invariant-found : goal.invariant-found
-invariant-found l = (with_front l.found (read MoreParameters l.tokens) ≡ with_front l.fn.first (read MoreParameters l.fn.tokens)) × (length l.tokens ≤ length l.fn.tokens)
+invariant-found l = with_front l.found (read MoreParameters l.tokens) ≡ with_front l.fn.first (read MoreParameters l.fn.tokens)
 
 abbrev pub decreases-found : goal.decreases-found
 decreases-found l = length l.tokens
