@@ -9,8 +9,8 @@ use Rattle.vd_clight.specs.declared.syntax.FnText.{FnText}
 use Rattle.vd_clight.specs.declared.typed.TypedFn.{TypedFn}
 use Rattle.vd_cgrammar.specs.declared.parts.Decl.TheVariants as decl
 use Rattle.vd_cparse.specs.Section.{AnswersDecl, IsFnSection}
-use Rattle.vd_ctyping.specs.declared.fault.TypeFault.{TypeFault}
-use Rattle.vd_ctyping.specs.declared.fault.TypeFault.TheVariants as typing
+use Rattle.vd_judge.specs.declared.fault.TypeFault.{TypeFault}
+use Rattle.vd_judge.specs.declared.fault.TypeFault.TheVariants as typing
 use Rattle.vd_ctyping.specs.Typing.{Answers, IsTyped, TypedHasNoFault, TypedOnce}
 use Rattle.vd_linkage.specs.Only.{IsOnly}
 use Rattle.vd_linkage.specs.Program.{IsFunction, IsGlobal}

@@ -20,7 +20,7 @@ use Rattle.vd_heads.specs.declared.content.Part.{Part}
 use Rattle.vd_heads.specs.declared.table.Space.TheVariants as space
 use Rattle.vd_heads.specs.Closure.{Means, IsUnambiguous}
 use Rattle.vd_scopes.specs.Scope.{HasStructs}
-use Rattle.vd_ctyping.specs.Alike.{AreAlike}
+use Rattle.vd_judge.specs.Alike.{AreAlike}
 
 -- ---- cells of types under two tables
 

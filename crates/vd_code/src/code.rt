@@ -2,8 +2,8 @@
 
 ghost use Rattle.std.specs.Prelude.{◌≡◌, ◌≢◌, ◌∷◌, [], IfOk, MatchOption, OnOk};
 ghost use Rattle.vd_clight.specs.declared.program.CScope.{CScope as CScope_of_parts};
-ghost use Rattle.vd_ctyping.specs.declared.fault.TypeFault.TheVariants.{Memory as OutOfMemory};
-ghost use Rattle.vd_ctyping.specs.NameTable.{IsIndex};
+ghost use Rattle.vd_judge.specs.declared.fault.TypeFault.TheVariants.{Memory as OutOfMemory};
+ghost use Rattle.vd_ctyping.specs.Index.{IsIndex};
 ghost use Rattle.vd_heads.specs.HeadPart as part;
 ghost use Rattle.vd_code.specs.Alike.{IsScopeOf};
 ghost use Rattle.vd_code.specs.Code.{Adds, IsAlone};

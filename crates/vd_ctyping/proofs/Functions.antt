@@ -5,20 +5,20 @@ use Rattle.vd_clight.specs.declared.program.CScope.{CScope}
 use Rattle.vd_clight.specs.declared.syntax.FnText.{FnText}
 use Rattle.vd_clight.specs.declared.typed.TStmt.{TStmt}
 use Rattle.vd_clight.specs.declared.typed.TypedFn.{TypedFn}
-use Rattle.vd_ctyping.specs.declared.checked.Checked.{Checked}
-use Rattle.vd_ctyping.specs.declared.checked.Checked.TheVariants.{Typed, Untyped}
-use Rattle.vd_ctyping.specs.declared.fault.TypeFault.{TypeFault}
-use Rattle.vd_ctyping.specs.declared.fault.TypeFault.TheVariants as fault
-use Rattle.vd_ctyping.specs.Checked.{fine, follows}
-use Rattle.vd_ctyping.specs.Derivation.{Gives}
-use Rattle.vd_ctyping.specs.Function.{are_declared, environment, with_body}
+use Rattle.vd_judge.specs.declared.checked.Checked.{Checked}
+use Rattle.vd_judge.specs.declared.checked.Checked.TheVariants.{Typed, Untyped}
+use Rattle.vd_judge.specs.declared.fault.TypeFault.{TypeFault}
+use Rattle.vd_judge.specs.declared.fault.TypeFault.TheVariants as fault
+use Rattle.vd_judge.specs.Checked.{fine, follows}
+use Rattle.vd_judge.specs.Derivation.{Gives}
+use Rattle.vd_ctyping.specs.Function.{are_declared, declared, environment, function_rule, with_body}
 use Rattle.vd_ctyping.specs.CheckedFunction.{finished, body_of, typed_function}
-use Rattle.vd_ctyping.specs.Rule.{says, rests}
-use Rattle.vd_ctyping.specs.Rules.{block, declared, function_rule}
+use Rattle.vd_judge.specs.Rule.{says, rests}
+use Rattle.vd_judge.specs.Rules.{block}
 use Rattle.vd_ctyping.specs.Typing.{IsTyped, IsFault, IsFirstFault, Answers, TypedOnce, TypedHasNoFault, TypedOrFaulty}
-use Rattle.vd_ctyping.proofs.Agreement.{Agrees, agrees_says, agrees_rests}
-use Rattle.vd_ctyping.proofs.Agreeing.{said_on}
-use Rattle.vd_ctyping.proofs.Blocks.{body_agrees}
+use Rattle.vd_judge.proofs.Agreement.{Agrees, agrees_says, agrees_rests}
+use Rattle.vd_judge.proofs.Agreeing.{said_on}
+use Rattle.vd_judge.proofs.Blocks.{body_agrees}
 
 -- whether the declarations are allowed, as a part
 abbrev declaring : FnText → Checked (Unit {0})

@@ -1,9 +1,3 @@
-pub mod Agreeing
-pub mod Agreement
-pub mod Blocks
-pub mod Expressions
+pub mod DistinctNames
 pub mod Functions
-pub mod NameLaws
-pub mod Sizes
-pub mod Statements
 pub mod TypedAlike

@@ -5,11 +5,11 @@ use Rattle.vd_clight.specs.declared.program.CScope.{CScope}
 use Rattle.vd_clight.specs.declared.syntax.FnText.{FnText}
 use Rattle.vd_clight.specs.declared.typed.TStmt.{TStmt}
 use Rattle.vd_clight.specs.declared.typed.TypedFn.{TypedFn}
-use Rattle.vd_ctyping.specs.declared.fault.TypeFault.{TypeFault}
-use Rattle.vd_ctyping.specs.declared.fault.TypeFault.TheVariants as fault
-use Rattle.vd_ctyping.specs.declared.checked.Checked.{Checked}
-use Rattle.vd_ctyping.specs.declared.checked.Checked.TheVariants.{Typed, Untyped}
-use Rattle.vd_ctyping.specs.CheckedStatement.{block, typed_statement}
+use Rattle.vd_judge.specs.declared.fault.TypeFault.{TypeFault}
+use Rattle.vd_judge.specs.declared.fault.TypeFault.TheVariants as fault
+use Rattle.vd_judge.specs.declared.checked.Checked.{Checked}
+use Rattle.vd_judge.specs.declared.checked.Checked.TheVariants.{Typed, Untyped}
+use Rattle.vd_judge.specs.CheckedStatement.{block, typed_statement}
 use Rattle.vd_ctyping.specs.Function.{are_declared, environment, with_body}
 
 abbrev pub finished : FnText → Checked (List TStmt) → Result TypedFn TypeFault

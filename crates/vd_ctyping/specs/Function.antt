@@ -1,15 +1,21 @@
--- Declarations of a function, and what its statements see.
-use Rattle.std.specs.Prelude.{ℕ, Bool, true, not, ◌&&◌, ◌||◌, List, [], ◌∷◌, ◌++◌, length}
+-- Functions: their declarations, what their statements see, and their rule.
+use Rattle.std.specs.Prelude.{ℕ, Bool, cond, true, not, ◌&&◌, ◌||◌, List, [], ◌∷◌, ◌++◌, length}
 use Rattle.std.specs.List.{list_any, list_all}
 use Rattle.std.specs.Str.{bytes_eq}
-use Rattle.vd_base.specs.declared.ctype.CType.{CType}
+use Rattle.vd_base.specs.declared.ctype.CType.{CType, Void}
 use Rattle.vd_base.specs.declared.ctype.Field.{Field}
 use Rattle.vd_clight.specs.declared.program.CScope.{CScope}
 use Rattle.vd_clight.specs.declared.syntax.FnText.{FnText}
 use Rattle.vd_clight.specs.declared.typed.TStmt.{TStmt}
 use Rattle.vd_clight.specs.declared.typed.TypedFn.{TypedFn}
-use Rattle.vd_ctyping.specs.Environment.{Environment, names_of}
-use Rattle.vd_ctyping.specs.Types.{is_scalar, is_void}
+use Rattle.vd_judge.specs.declared.checked.Checked.TheVariants.{Untyped}
+use Rattle.vd_judge.specs.declared.fault.TypeFault.TheVariants as fault
+use Rattle.vd_judge.specs.Checked.{fine}
+use Rattle.vd_judge.specs.Environment.{Environment, names_of}
+use Rattle.vd_judge.specs.Rule.{Rule, says, rests}
+use Rattle.vd_judge.specs.Rules.{block}
+use Rattle.vd_judge.specs.Sort as sort
+use Rattle.vd_judge.specs.Types.{is_scalar, is_void}
 
 -- ---- declarations
 
@@ -43,3 +49,10 @@ environment scope f =
 
 abbrev pub with_body : FnText → List TStmt → TypedFn
 with_body f body = record { name = f.name; ret = f.ret; params = length f.params; temps = variables f; body = body }
+
+-- declarations stand at place 0, before all else
+abbrev pub declared : FnText → Rule sort.nothing
+declared f = says (cond (are_declared f) (fine tt) (Untyped (fault.Mismatch 0 Void Void)))
+
+abbrev pub function_rule : FnText → Rule sort.function
+function_rule f = rests (declared f) (λ d. rests (block f.body) (λ body. says (fine (with_body f body))))

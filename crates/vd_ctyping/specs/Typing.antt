@@ -3,12 +3,11 @@ use Rattle.std.specs.Prelude.{◌≡◌, ◌⊎◌, Bool, true, List, Result, Ok
 use Rattle.vd_clight.specs.declared.program.CScope.{CScope}
 use Rattle.vd_clight.specs.declared.syntax.FnText.{FnText}
 use Rattle.vd_clight.specs.declared.typed.TypedFn.{TypedFn}
-use Rattle.vd_ctyping.specs.declared.fault.TypeFault.{TypeFault}
-use Rattle.vd_ctyping.specs.declared.fault.TypeFault.TheVariants as fault
-use Rattle.vd_ctyping.specs.Derivation.{Derives, Faulty, IsFirst}
-use Rattle.vd_ctyping.specs.Function.{environment}
-use Rattle.vd_ctyping.specs.Rules.{function_rule}
-use Rattle.vd_ctyping.specs.Sort as sort
+use Rattle.vd_judge.specs.declared.fault.TypeFault.{TypeFault}
+use Rattle.vd_judge.specs.declared.fault.TypeFault.TheVariants as fault
+use Rattle.vd_judge.specs.Derivation.{Derives, Faulty, IsFirst}
+use Rattle.vd_ctyping.specs.Function.{environment, function_rule}
+use Rattle.vd_judge.specs.Sort as sort
 
 -- the function is typed and in normal form, and this is its typed syntax
 abbrev pub IsTyped : CScope → FnText → TypedFn → Type 0

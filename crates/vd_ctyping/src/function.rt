@@ -1,22 +1,18 @@
 //! Typed functions.
 
 ghost use Rattle.std.specs.Prelude.{◌≡◌, ◌++◌, ◌∷◌, ◌<◌, ◌+◌, ◌^◌, length, IfOk, OnOk};
-ghost use Rattle.vd_ctyping.specs.Environment.{names_of};
+ghost use Rattle.vd_judge.specs.Environment.{names_of, global_names, function_names};
 ghost use Rattle.vd_ctyping.specs.Function.{are_scalars, is_result, are_declared, are_distinct, variables};
 ghost use Rattle.vd_ctyping.specs.CheckedFunction.{body_of, finished, typed_function};
-ghost use Rattle.vd_ctyping.specs.NameTable.{IsIndex, Numbers};
+ghost use Rattle.vd_judge.specs.NameTable.{Numbers};
+ghost use Rattle.vd_ctyping.specs.Index.{IsIndex};
 ghost use Rattle.vd_ctyping.specs.Typing.{Answers};
 
-use crate::checked::Checked;
-use crate::fault::TypeFault;
 use crate::index::{ScopeIndex, can_number};
-use crate::names::NameTable;
-use crate::scope::Scope;
-use crate::shape::{is_scalar, is_void};
-use crate::statement::type_block;
 use std::alloc::{AllocError, Global};
 use vd_base::{CType, Field, List, Name};
 use vd_clight::{CScope, FnText, TStmt, TypedFn};
+use vd_judge::{Checked, NameTable, Scope, TypeFault, is_scalar, is_void, type_block};
 
 // ---- declarations
 
@@ -101,14 +97,17 @@ fn number_fields<'a>(alloc: Global, fields: &'a [Field]) -> Result<NameTable<'a>
 // ---- functions
 
 /// The body, or the first fault of its statements.
-fn type_body(
+fn type_body<'a, 'n>(
     alloc: Global,
-    index: &ScopeIndex<'_>,
-    f: &FnText,
+    scope: &'a CScope,
+    globals: &'a NameTable<'n>,
+    functions: &'a NameTable<'n>,
+    f: &'a FnText,
 ) -> Result<Checked<List<TStmt>>, AllocError>
     requires few { length f.now.params + length f.now.temps < 2 ^ 32 }
-    requires index { IsIndex index.now }
-    ensures { IfOk result (λ b. b ≡ body_of index.now.scope.now f.now) }
+    requires globals { Numbers globals.now (global_names scope.now.globals) }
+    requires functions { Numbers functions.now (function_names scope.now.fns) }
+    ensures { IfOk result (λ b. b ≡ body_of scope.now f.now) }
 {
     let params = f.params.as_slice();
     let temps = f.temps.as_slice();
@@ -116,9 +115,11 @@ fn type_body(
         params,
         temps,
         returned: &f.ret,
-        index,
+        outer: scope,
         param_numbers: number_fields(alloc, params)?,
         temp_numbers: number_fields(alloc, temps)?,
+        global_numbers: globals,
+        function_numbers: functions,
     };
     type_block(alloc, &seen, f.body.as_slice())
 }
@@ -152,7 +153,7 @@ fn finished(
     }
 }
 
-#[tactic(auto, using(crate::proofs::NameLaws::variables_count))]
+#[tactic(auto, using(crate::proofs::DistinctNames::variables_count))]
 fn typed(
     alloc: Global,
     index: &ScopeIndex<'_>,
@@ -168,7 +169,7 @@ fn typed(
     if !are_declared(alloc, f, &names)? {
         return Ok(Err(TypeFault::Mismatch(0, CType::Void, CType::Void)));
     }
-    let body = type_body(alloc, index, f)?;
+    let body = type_body(alloc, index.scope, &index.globals, &index.functions, f)?;
     finished(alloc, f, names, body)
 }
 

@@ -1,13 +1,14 @@
 //! A scope with the numbers of its names.
 
 ghost use Rattle.std.specs.Prelude.{◌≡◌, ◌<◌, ◌^◌, nat_lt, length, IfOk};
-ghost use Rattle.vd_ctyping.specs.Environment.{global_names, function_names};
-ghost use Rattle.vd_ctyping.specs.NameTable.{IsIndex, Numbers};
+ghost use Rattle.vd_judge.specs.Environment.{global_names, function_names};
+ghost use Rattle.vd_judge.specs.NameTable.{Numbers};
+ghost use Rattle.vd_ctyping.specs.Index.{IsIndex};
 
-use crate::names::NameTable;
 use std::alloc::{AllocError, Global};
 use vd_base::{CType, Name};
 use vd_clight::{CScope, Signature};
+use vd_judge::NameTable;
 
 /// A scope with the numbers of its names, for all functions that are typed under it.
 #[derive(Drop)]

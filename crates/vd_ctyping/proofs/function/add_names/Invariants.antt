@@ -1,5 +1,5 @@
 use Rattle.std.proofs.Common.{◌≡◌, ◌++◌, take}
-use Rattle.vd_ctyping.specs.Environment.{names_of}
+use Rattle.vd_judge.specs.Environment.{names_of}
 use Rattle.vd_ctyping.proofs.function.add_names.Given as goal
 
 abbrev pub invariant-loop-field : goal.invariant-loop-field

@@ -1,5 +1,5 @@
 use Rattle.std.proofs.Common.{sym, ◌∙◌}
-use Rattle.vd_ctyping.proofs.NameLaws.{own_name_again, known_name_again, so_far_more}
+use Rattle.vd_ctyping.proofs.DistinctNames.{own_name_again, known_name_again, so_far_more}
 use Rattle.vd_ctyping.proofs.function.are_distinct.Goals as goal
 
 pub returns-then-eq : goal.returns-then-eq

@@ -1,5 +1,5 @@
 use Rattle.std.proofs.Common.{take}
-use Rattle.vd_ctyping.proofs.NameLaws.{SoFar}
+use Rattle.vd_ctyping.proofs.DistinctNames.{SoFar}
 use Rattle.vd_ctyping.proofs.function.are_distinct.Given as goal
 
 abbrev pub invariant-loop-number : goal.invariant-loop-number

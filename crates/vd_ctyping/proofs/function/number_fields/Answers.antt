@@ -1,5 +1,5 @@
 use Rattle.vd_base.specs.declared.ctype.Field.{Field}
-use Rattle.vd_ctyping.proofs.NameLaws.{numbers_more}
+use Rattle.vd_judge.proofs.NameLaws.{numbers_more}
 use Rattle.vd_ctyping.proofs.function.number_fields.Goals as goal
 
 pub loop-number-preserved : goal.loop-number-preserved

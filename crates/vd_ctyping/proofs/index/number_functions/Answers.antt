@@ -1,5 +1,5 @@
 use Rattle.vd_clight.specs.declared.program.Signature.{Signature}
-use Rattle.vd_ctyping.proofs.NameLaws.{numbers_more}
+use Rattle.vd_judge.proofs.NameLaws.{numbers_more}
 use Rattle.vd_ctyping.proofs.index.number_functions.Goals as goal
 
 pub loop-number-preserved : goal.loop-number-preserved

@@ -1,6 +1,6 @@
 use Rattle.std.proofs.Common.{ℕ, List}
 use Rattle.vd_base.specs.declared.ctype.CType.{CType}
-use Rattle.vd_ctyping.proofs.NameLaws.{numbers_more}
+use Rattle.vd_judge.proofs.NameLaws.{numbers_more}
 use Rattle.vd_ctyping.proofs.index.number_globals.Goals as goal
 
 pub loop-number-preserved : goal.loop-number-preserved

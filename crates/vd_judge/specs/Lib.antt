@@ -1,0 +1,17 @@
+pub mod Alike
+pub mod Call
+pub mod Checked
+pub mod CheckedCall
+pub mod CheckedExpression
+pub mod CheckedStatement
+pub mod Derivation
+pub mod Environment
+pub mod Fault
+pub mod Found
+pub mod NameTable
+pub mod Operation
+pub mod Place
+pub mod Rule
+pub mod Rules
+pub mod Sort
+pub mod Types
