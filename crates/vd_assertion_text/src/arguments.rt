@@ -59,10 +59,8 @@ pub fn terms(alloc: Global, tokens: &mut Tokens<'_>) -> Result<List<Term>, Stop>
     }
 }
 
-/// A predicate with its arguments.
-#[tactic(auto, using(vd_logic_grammar::specs::Laws::read_is))]
-pub fn label(alloc: Global, tokens: &mut Tokens<'_>) -> Result<Label, Stop>
-    ensures reads { Reads (read Phrase.Label_ tokens.old) result tokens.new }
+fn label_rule(alloc: Global, tokens: &mut Tokens<'_>) -> Result<Label, Stop>
+    ensures reads { Reads (read_rule Rule.label tokens.old) result tokens.new }
     ensures no_longer { length tokens.new ≤ length tokens.old }
 {
     let name = tokens.name()?;
@@ -70,4 +68,13 @@ pub fn label(alloc: Global, tokens: &mut Tokens<'_>) -> Result<Label, Stop>
     let args = terms(alloc, tokens)?;
     let name = name_of(alloc, name)?;
     Ok(Label { name, args })
+}
+
+/// A predicate with its arguments.
+#[tactic(auto, using(vd_logic_grammar::specs::Laws::read_is))]
+pub fn label(alloc: Global, tokens: &mut Tokens<'_>) -> Result<Label, Stop>
+    ensures reads { Reads (read Phrase.Label_ tokens.old) result tokens.new }
+    ensures no_longer { length tokens.new ≤ length tokens.old }
+{
+    label_rule(alloc, tokens)
 }

@@ -95,10 +95,9 @@ fn locals(alloc: Global, tokens: &mut Tokens<'_>) -> Result<List<(Name, Term)>, 
     }
 }
 
-/// An assertion that opens no variables.
-#[tactic(auto, using(vd_logic_grammar::specs::Laws::read_is))]
-pub(crate) fn facts(alloc: Global, tokens: &mut Tokens<'_>) -> Result<AssertionText, Stop>
-    ensures reads { Reads (read Phrase.Facts tokens.old) result tokens.new }
+/// By its only rule; what is proved of the phrase needs the choice of a rule, and is proved at one call.
+fn facts_rule(alloc: Global, tokens: &mut Tokens<'_>) -> Result<AssertionText, Stop>
+    ensures reads { Reads (read_rule Rule.facts tokens.old) result tokens.new }
     ensures no_longer { length tokens.new ≤ length tokens.old }
 {
     tokens.take(Kind::Prop)?;
@@ -114,6 +113,15 @@ pub(crate) fn facts(alloc: Global, tokens: &mut Tokens<'_>) -> Result<AssertionT
         locals,
         items,
     })
+}
+
+/// An assertion that opens no variables.
+#[tactic(auto, using(vd_logic_grammar::specs::Laws::read_is))]
+pub(crate) fn facts(alloc: Global, tokens: &mut Tokens<'_>) -> Result<AssertionText, Stop>
+    ensures reads { Reads (read Phrase.Facts tokens.old) result tokens.new }
+    ensures no_longer { length tokens.new ≤ length tokens.old }
+{
+    facts_rule(alloc, tokens)
 }
 
 fn some_opened(alloc: Global, tokens: &mut Tokens<'_>) -> Result<List<(Name, Sort)>, Stop>
@@ -138,9 +146,8 @@ fn opened(alloc: Global, tokens: &mut Tokens<'_>) -> Result<List<(Name, Sort)>, 
     }
 }
 
-#[tactic(auto, using(vd_logic_grammar::specs::Laws::read_is))]
-pub(crate) fn assertion(alloc: Global, tokens: &mut Tokens<'_>) -> Result<AssertionText, Stop>
-    ensures reads { Reads (read Phrase.Assertion_ tokens.old) result tokens.new }
+fn assertion_rule(alloc: Global, tokens: &mut Tokens<'_>) -> Result<AssertionText, Stop>
+    ensures reads { Reads (read_rule Rule.assertion tokens.old) result tokens.new }
     ensures no_longer { length tokens.new ≤ length tokens.old }
 {
     let opened = opened(alloc, tokens)?;
@@ -151,4 +158,13 @@ pub(crate) fn assertion(alloc: Global, tokens: &mut Tokens<'_>) -> Result<Assert
         locals: facts.locals,
         items: facts.items,
     })
+}
+
+/// An assertion, with the variables that it opens.
+#[tactic(auto, using(vd_logic_grammar::specs::Laws::read_is))]
+pub(crate) fn assertion(alloc: Global, tokens: &mut Tokens<'_>) -> Result<AssertionText, Stop>
+    ensures reads { Reads (read Phrase.Assertion_ tokens.old) result tokens.new }
+    ensures no_longer { length tokens.new ≤ length tokens.old }
+{
+    assertion_rule(alloc, tokens)
 }

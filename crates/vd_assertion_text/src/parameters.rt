@@ -53,6 +53,14 @@ fn void_parameter(alloc: Global, tokens: &mut Tokens<'_>) -> Result<List<Field>,
     more_parameters(alloc, tokens, found)
 }
 
+fn no_parameter(alloc: Global, tokens: &mut Tokens<'_>) -> Result<List<Field>, Stop>
+    ensures reads { Reads (read_rule Rule.no_parameter tokens.old) result tokens.new }
+    ensures no_longer { length tokens.new ≤ length tokens.old }
+{
+    tokens.take(Kind::RightParen)?;
+    Ok(List::new(alloc))
+}
+
 /// What stands behind a `void` in front.
 #[tactic(auto, using(vd_logic_grammar::specs::Laws::read_is))]
 fn after_void(alloc: Global, tokens: &mut Tokens<'_>) -> Result<List<Field>, Stop>
@@ -60,8 +68,7 @@ fn after_void(alloc: Global, tokens: &mut Tokens<'_>) -> Result<List<Field>, Sto
     ensures no_longer { length tokens.new ≤ length tokens.old }
 {
     if tokens.sees(Class::One(Kind::RightParen)) {
-        tokens.take(Kind::RightParen)?;
-        Ok(List::new(alloc))
+        no_parameter(alloc, tokens)
     } else {
         void_parameter(alloc, tokens)
     }

@@ -19,10 +19,8 @@ use vd_grammar::Stop;
 use vd_logic::{Assertion, Sort, Spec};
 use vd_logic_grammar::{AssertionText, Class, Kind, Tokens, name_of};
 
-/// An assertion of a script, whose opened variables alone are numbered.
-#[tactic(auto, using(vd_logic_grammar::specs::Laws::read_is))]
-pub fn claim(alloc: Global, tokens: &mut Tokens<'_>) -> Result<Assertion, Stop>
-    ensures reads { Reads (read Phrase.Claim tokens.old) result tokens.new }
+fn claim_rule(alloc: Global, tokens: &mut Tokens<'_>) -> Result<Assertion, Stop>
+    ensures reads { Reads (read_rule Rule.claim tokens.old) result tokens.new }
     ensures no_longer { length tokens.new ≤ length tokens.old }
 {
     let text = assertion(alloc, tokens)?;
@@ -30,11 +28,17 @@ pub fn claim(alloc: Global, tokens: &mut Tokens<'_>) -> Result<Assertion, Stop>
     Ok(claim)
 }
 
-/// The sorts of the arguments of a predicate that an interface declares, whether the name of one hides another's, and the
-/// line `end`.
+/// An assertion of a script, whose opened variables alone are numbered.
 #[tactic(auto, using(vd_logic_grammar::specs::Laws::read_is))]
-pub fn abstract_section(alloc: Global, tokens: &mut Tokens<'_>) -> Result<(List<Sort>, bool), Stop>
-    ensures reads { Reads (read Phrase.AbstractSection tokens.old) result tokens.new }
+pub fn claim(alloc: Global, tokens: &mut Tokens<'_>) -> Result<Assertion, Stop>
+    ensures reads { Reads (read Phrase.Claim tokens.old) result tokens.new }
+    ensures no_longer { length tokens.new ≤ length tokens.old }
+{
+    claim_rule(alloc, tokens)
+}
+
+fn abstract_rule(alloc: Global, tokens: &mut Tokens<'_>) -> Result<(List<Sort>, bool), Stop>
+    ensures reads { Reads (read_rule Rule.abstract_section tokens.old) result tokens.new }
     ensures no_longer { length tokens.new ≤ length tokens.old }
 {
     tokens.take(Kind::LeftParen)?;
@@ -44,6 +48,16 @@ pub fn abstract_section(alloc: Global, tokens: &mut Tokens<'_>) -> Result<(List<
     let sorts = sorts_of(alloc, names.as_slice())?;
     let hides = hides(alloc, names.as_slice())?;
     Ok((sorts, hides))
+}
+
+/// The sorts of the arguments of a predicate that an interface declares, whether the name of one hides another's, and the
+/// line `end`.
+#[tactic(auto, using(vd_logic_grammar::specs::Laws::read_is))]
+pub fn abstract_section(alloc: Global, tokens: &mut Tokens<'_>) -> Result<(List<Sort>, bool), Stop>
+    ensures reads { Reads (read Phrase.AbstractSection tokens.old) result tokens.new }
+    ensures no_longer { length tokens.new ≤ length tokens.old }
+{
+    abstract_rule(alloc, tokens)
 }
 
 /// The cases behind others.
@@ -64,15 +78,23 @@ fn more_cases(
     Ok(found)
 }
 
-#[tactic(auto, using(vd_logic_grammar::specs::Laws::read_is, vd_grammar::specs::Loops::fronts))]
-fn cases(alloc: Global, tokens: &mut Tokens<'_>) -> Result<List<AssertionText>, Stop>
-    ensures reads { Reads (read Phrase.Cases tokens.old) result tokens.new }
+#[tactic(auto, using(vd_grammar::specs::Loops::fronts))]
+fn cases_rule(alloc: Global, tokens: &mut Tokens<'_>) -> Result<List<AssertionText>, Stop>
+    ensures reads { Reads (read_rule Rule.first_case tokens.old) result tokens.new }
     ensures no_longer { length tokens.new ≤ length tokens.old }
 {
     tokens.take(Kind::Case)?;
     let mut found = List::new(alloc);
     found.push(assertion(alloc, tokens)?)?;
     more_cases(alloc, tokens, found)
+}
+
+#[tactic(auto, using(vd_logic_grammar::specs::Laws::read_is))]
+fn cases(alloc: Global, tokens: &mut Tokens<'_>) -> Result<List<AssertionText>, Stop>
+    ensures reads { Reads (read Phrase.Cases tokens.old) result tokens.new }
+    ensures no_longer { length tokens.new ≤ length tokens.old }
+{
+    cases_rule(alloc, tokens)
 }
 
 fn number_cases(
@@ -93,13 +115,11 @@ fn number_cases(
     Ok((found, hides))
 }
 
-/// The sorts of a predicate's arguments, its cases, whether in one a name hides another, and the line `end`.
-#[tactic(auto, using(vd_logic_grammar::specs::Laws::read_is))]
-pub fn pred_section(
+fn pred_rule(
     alloc: Global,
     tokens: &mut Tokens<'_>,
 ) -> Result<(List<Sort>, List<Assertion>, bool), Stop>
-    ensures reads { Reads (read Phrase.PredSection tokens.old) result tokens.new }
+    ensures reads { Reads (read_rule Rule.pred_section tokens.old) result tokens.new }
     ensures no_longer { length tokens.new ≤ length tokens.old }
 {
     tokens.take(Kind::LeftParen)?;
@@ -112,9 +132,20 @@ pub fn pred_section(
     Ok((sorts, cases, hides))
 }
 
+/// The sorts of a predicate's arguments, its cases, whether in one a name hides another, and the line `end`.
 #[tactic(auto, using(vd_logic_grammar::specs::Laws::read_is))]
-fn signature(alloc: Global, tokens: &mut Tokens<'_>) -> Result<Signature, Stop>
-    ensures reads { Reads (read Phrase.Signature_ tokens.old) result tokens.new }
+pub fn pred_section(
+    alloc: Global,
+    tokens: &mut Tokens<'_>,
+) -> Result<(List<Sort>, List<Assertion>, bool), Stop>
+    ensures reads { Reads (read Phrase.PredSection tokens.old) result tokens.new }
+    ensures no_longer { length tokens.new ≤ length tokens.old }
+{
+    pred_rule(alloc, tokens)
+}
+
+fn signature_rule(alloc: Global, tokens: &mut Tokens<'_>) -> Result<Signature, Stop>
+    ensures reads { Reads (read_rule Rule.signature tokens.old) result tokens.new }
     ensures no_longer { length tokens.new ≤ length tokens.old }
 {
     let ret = hold(ctype(alloc, tokens)?);
@@ -127,6 +158,14 @@ fn signature(alloc: Global, tokens: &mut Tokens<'_>) -> Result<Signature, Stop>
         name,
         params,
     })
+}
+
+#[tactic(auto, using(vd_logic_grammar::specs::Laws::read_is))]
+fn signature(alloc: Global, tokens: &mut Tokens<'_>) -> Result<Signature, Stop>
+    ensures reads { Reads (read Phrase.Signature_ tokens.old) result tokens.new }
+    ensures no_longer { length tokens.new ≤ length tokens.old }
+{
+    signature_rule(alloc, tokens)
 }
 
 fn some_names(alloc: Global, tokens: &mut Tokens<'_>) -> Result<List<(Name, Sort)>, Stop>
@@ -176,11 +215,8 @@ fn specification(
     Ok((spec, hides))
 }
 
-/// The specification of a function, whether one of its variables, the result and what its postcondition opens hides
-/// another, and the line `end`.
-#[tactic(auto, using(vd_logic_grammar::specs::Laws::read_is))]
-pub fn spec_section(alloc: Global, tokens: &mut Tokens<'_>) -> Result<(Spec, bool), Stop>
-    ensures reads { Reads (read Phrase.SpecSection tokens.old) result tokens.new }
+fn spec_rule(alloc: Global, tokens: &mut Tokens<'_>) -> Result<(Spec, bool), Stop>
+    ensures reads { Reads (read_rule Rule.spec_section tokens.old) result tokens.new }
     ensures no_longer { length tokens.new ≤ length tokens.old }
 {
     let signature = signature(alloc, tokens)?;
@@ -191,4 +227,14 @@ pub fn spec_section(alloc: Global, tokens: &mut Tokens<'_>) -> Result<(Spec, boo
     let post = assertion(alloc, tokens)?;
     tokens.take(Kind::EndLine)?;
     Ok(specification(alloc, signature, names, &pre, &post)?)
+}
+
+/// The specification of a function, whether one of its variables, the result and what its postcondition opens hides
+/// another, and the line `end`.
+#[tactic(auto, using(vd_logic_grammar::specs::Laws::read_is))]
+pub fn spec_section(alloc: Global, tokens: &mut Tokens<'_>) -> Result<(Spec, bool), Stop>
+    ensures reads { Reads (read Phrase.SpecSection tokens.old) result tokens.new }
+    ensures no_longer { length tokens.new ≤ length tokens.old }
+{
+    spec_rule(alloc, tokens)
 }
