@@ -1,0 +1,12 @@
+pub mod Agreement
+pub mod Computed
+pub mod Fitting
+pub mod Items
+pub mod Joining
+pub mod Opening
+pub mod Replacement
+pub mod Singles
+pub mod TermSorts
+pub mod Tests
+pub mod Valuations
+pub mod Words

@@ -1,0 +1,13 @@
+pub mod Edges
+pub mod Facts
+pub mod Fits
+pub mod Meaning
+pub mod MeaningLaws
+pub mod Multisets
+pub mod Operations
+pub mod Resource
+pub mod ResourceLaws
+pub mod Satisfaction
+pub mod Shares
+pub mod States
+pub mod Values

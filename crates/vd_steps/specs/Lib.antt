@@ -1,0 +1,6 @@
+pub mod Code
+pub mod CodeLaws
+pub mod PlainCode
+pub mod PlainScript
+pub mod Script
+pub mod ScriptLaws

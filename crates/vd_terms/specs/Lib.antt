@@ -1,0 +1,11 @@
+pub mod Assertions
+pub mod Integers
+pub mod OperationLaws
+pub mod PlainLaws
+pub mod PlainLogic
+pub mod Replacing
+pub mod Sorts
+pub mod States
+pub mod Terms
+pub mod Typed
+pub mod TypedLaws
