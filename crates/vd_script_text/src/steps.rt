@@ -14,7 +14,7 @@ use crate::heap::{agree, apart, bounds, cut, forget, glue, meet, name, share, un
 use crate::parts::{as_names, at, names};
 use std::alloc::Global;
 use vd_assertion_text::{claim, prop};
-use vd_base::List;
+use vd_base::{List, hold};
 use vd_grammar::Stop;
 use vd_logic::{Block, Step, StepNode};
 use vd_logic_grammar::{Class, Kind, Tokens, name_of};
@@ -28,10 +28,10 @@ fn branches(alloc: Global, tokens: &mut Tokens<'_>) -> Result<StepNode, Stop>
     tokens.take(Kind::If)?;
     let items = at(alloc, tokens)?;
     let proofs = by(alloc, tokens)?;
-    let first = block(alloc, tokens)?;
-    let second = block(alloc, tokens)?;
+    let first = hold(block(alloc, tokens)?);
+    let second = hold(block(alloc, tokens)?);
     tokens.take(Kind::Semicolon)?;
-    Ok(StepNode::If(items, proofs, first, second))
+    Ok(StepNode::If(items, proofs, first.out(), second.out()))
 }
 
 #[cycle(step)]
@@ -41,13 +41,19 @@ fn repeats(alloc: Global, tokens: &mut Tokens<'_>) -> Result<StepNode, Stop>
     ensures shorter { OnOk result (length tokens.new < length tokens.old) }
 {
     tokens.take(Kind::While)?;
-    let invariant = claim(alloc, tokens)?;
-    let behind = claim(alloc, tokens)?;
+    let invariant = hold(claim(alloc, tokens)?);
+    let behind = hold(claim(alloc, tokens)?);
     let names = as_names(alloc, tokens)?;
-    let first = block(alloc, tokens)?;
-    let second = block(alloc, tokens)?;
+    let first = hold(block(alloc, tokens)?);
+    let second = hold(block(alloc, tokens)?);
     tokens.take(Kind::Semicolon)?;
-    Ok(StepNode::While(invariant, behind, names, first, second))
+    Ok(StepNode::While(
+        invariant.out(),
+        behind.out(),
+        names,
+        first.out(),
+        second.out(),
+    ))
 }
 
 #[cycle(step)]
@@ -58,11 +64,11 @@ fn ends_at(alloc: Global, tokens: &mut Tokens<'_>) -> Result<StepNode, Stop>
 {
     tokens.take(Kind::Block)?;
     let count = tokens.index()?;
-    let assertion = claim(alloc, tokens)?;
+    let assertion = hold(claim(alloc, tokens)?);
     let names = as_names(alloc, tokens)?;
-    let inner = block(alloc, tokens)?;
+    let inner = hold(block(alloc, tokens)?);
     tokens.take(Kind::Semicolon)?;
-    Ok(StepNode::Block(count.value as u32, assertion, names, inner))
+    Ok(StepNode::Block(count.value as u32, assertion.out(), names, inner.out()))
 }
 
 #[cycle(step)]
@@ -72,11 +78,11 @@ fn pose(alloc: Global, tokens: &mut Tokens<'_>) -> Result<StepNode, Stop>
     ensures shorter { OnOk result (length tokens.new < length tokens.old) }
 {
     tokens.take(Kind::Pose)?;
-    let assertion = claim(alloc, tokens)?;
+    let assertion = hold(claim(alloc, tokens)?);
     let names = as_names(alloc, tokens)?;
-    let inner = block(alloc, tokens)?;
+    let inner = hold(block(alloc, tokens)?);
     tokens.take(Kind::Semicolon)?;
-    Ok(StepNode::Pose(assertion, names, inner))
+    Ok(StepNode::Pose(assertion.out(), names, inner.out()))
 }
 
 #[cycle(step)]
@@ -87,10 +93,11 @@ fn allocates(alloc: Global, tokens: &mut Tokens<'_>) -> Result<StepNode, Stop>
 {
     tokens.take(Kind::Malloc)?;
     let name = tokens.name()?;
-    let first = block(alloc, tokens)?;
-    let second = block(alloc, tokens)?;
+    let first = hold(block(alloc, tokens)?);
+    let second = hold(block(alloc, tokens)?);
     tokens.take(Kind::Semicolon)?;
-    Ok(StepNode::Malloc(name_of(alloc, name)?, first, second))
+    let name = name_of(alloc, name)?;
+    Ok(StepNode::Malloc(name, first.out(), second.out()))
 }
 
 #[cycle(step)]
@@ -113,11 +120,11 @@ fn split(alloc: Global, tokens: &mut Tokens<'_>) -> Result<StepNode, Stop>
     ensures shorter { OnOk result (length tokens.new < length tokens.old) }
 {
     tokens.take(Kind::Split)?;
-    let fact = prop(alloc, tokens)?;
-    let first = block(alloc, tokens)?;
-    let second = block(alloc, tokens)?;
+    let fact = hold(prop(alloc, tokens)?);
+    let first = hold(block(alloc, tokens)?);
+    let second = hold(block(alloc, tokens)?);
     tokens.take(Kind::Semicolon)?;
-    Ok(StepNode::Split(fact, first, second))
+    Ok(StepNode::Split(fact.out(), first.out(), second.out()))
 }
 
 #[cycle(step)]
