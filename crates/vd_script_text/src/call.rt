@@ -6,9 +6,11 @@ ghost use Rattle.vd_logic_grammar.specs.Grammar.{Phrase, Rule};
 ghost use Rattle.vd_logic_grammar.specs.Read.{read, read_rule};
 
 use crate::certificate::by;
+use crate::endings::{at_by_end, two_by_end};
 use crate::parts::{as_names, at};
 use std::alloc::Global;
 use vd_assertion_text::{label, terms};
+use vd_base::hold;
 use vd_grammar::Stop;
 use vd_logic::StepNode;
 use vd_logic_grammar::{Kind, Tokens};
@@ -34,10 +36,7 @@ pub(crate) fn free(alloc: Global, tokens: &mut Tokens<'_>) -> Result<StepNode, S
     ensures shorter { OnOk result (length tokens.new < length tokens.old) }
 {
     tokens.take(Kind::Free)?;
-    let first = tokens.index()?;
-    let second = tokens.index()?;
-    let proofs = by(alloc, tokens)?;
-    tokens.take(Kind::Semicolon)?;
+    let (first, second, proofs, _) = two_by_end(alloc, tokens)?;
     Ok(StepNode::Free(first.value as u32, second.value as u32, proofs))
 }
 
@@ -48,11 +47,9 @@ pub(crate) fn make_lock(alloc: Global, tokens: &mut Tokens<'_>) -> Result<StepNo
 {
     tokens.take(Kind::MakeLock)?;
     let first = tokens.index()?;
-    let invariant = label(alloc, tokens)?;
-    let items = at(alloc, tokens)?;
-    let proofs = by(alloc, tokens)?;
-    tokens.take(Kind::Semicolon)?;
-    Ok(StepNode::MakeLock(first.value as u32, invariant, items, proofs))
+    let invariant = hold(label(alloc, tokens)?);
+    let (items, proofs, _) = at_by_end(alloc, tokens)?;
+    Ok(StepNode::MakeLock(first.value as u32, invariant.out(), items, proofs))
 }
 
 pub(crate) fn acquire(alloc: Global, tokens: &mut Tokens<'_>) -> Result<StepNode, Stop>
@@ -88,9 +85,7 @@ pub(crate) fn free_lock(alloc: Global, tokens: &mut Tokens<'_>) -> Result<StepNo
     tokens.take(Kind::FreeLock)?;
     let first = tokens.index()?;
     let second = tokens.index()?;
-    let items = at(alloc, tokens)?;
-    let proofs = by(alloc, tokens)?;
-    tokens.take(Kind::Semicolon)?;
+    let (items, proofs, _) = at_by_end(alloc, tokens)?;
     Ok(StepNode::FreeLock(first.value as u32, second.value as u32, items, proofs))
 }
 
@@ -102,8 +97,6 @@ pub(crate) fn spawn(alloc: Global, tokens: &mut Tokens<'_>) -> Result<StepNode, 
     tokens.take(Kind::Spawn)?;
     tokens.take(Kind::LeftParen)?;
     let terms = terms(alloc, tokens)?;
-    let items = at(alloc, tokens)?;
-    let proofs = by(alloc, tokens)?;
-    tokens.take(Kind::Semicolon)?;
+    let (items, proofs, _) = at_by_end(alloc, tokens)?;
     Ok(StepNode::Spawn(terms, items, proofs))
 }

@@ -5,10 +5,11 @@ ghost use Rattle.vd_grammar.specs.Reads.{Reads};
 ghost use Rattle.vd_logic_grammar.specs.Grammar.{Phrase, Rule};
 ghost use Rattle.vd_logic_grammar.specs.Read.{read, read_rule};
 
-use crate::certificate::by;
+use crate::endings::{by_end, terms_by_end};
 use crate::parts::{back, occurrence};
 use std::alloc::Global;
 use vd_assertion_text::{prop, terms};
+use vd_base::hold;
 use vd_grammar::Stop;
 use vd_logic::StepNode;
 use vd_logic_grammar::{Kind, Tokens, name_of};
@@ -23,10 +24,7 @@ pub(crate) fn fold(alloc: Global, tokens: &mut Tokens<'_>) -> Result<StepNode, S
     let case = tokens.index()?;
     tokens.take(Kind::LeftParen)?;
     let arguments = terms(alloc, tokens)?;
-    tokens.take(Kind::LeftParen)?;
-    let opened = terms(alloc, tokens)?;
-    let proofs = by(alloc, tokens)?;
-    tokens.take(Kind::Semicolon)?;
+    let (_, opened, proofs, _) = terms_by_end(alloc, tokens)?;
     let name = name_of(alloc, name)?;
     Ok(StepNode::Fold(name, case.value as u32, arguments, opened, proofs))
 }
@@ -37,8 +35,7 @@ pub(crate) fn absurd(alloc: Global, tokens: &mut Tokens<'_>) -> Result<StepNode,
     ensures shorter { OnOk result (length tokens.new < length tokens.old) }
 {
     tokens.take(Kind::Absurd)?;
-    let proofs = by(alloc, tokens)?;
-    tokens.take(Kind::Semicolon)?;
+    let (proofs, _) = by_end(alloc, tokens)?;
     Ok(StepNode::Absurd(proofs))
 }
 
@@ -48,10 +45,9 @@ pub(crate) fn have(alloc: Global, tokens: &mut Tokens<'_>) -> Result<StepNode, S
     ensures shorter { OnOk result (length tokens.new < length tokens.old) }
 {
     tokens.take(Kind::Have)?;
-    let fact = prop(alloc, tokens)?;
-    let proofs = by(alloc, tokens)?;
-    tokens.take(Kind::Semicolon)?;
-    Ok(StepNode::Have(fact, proofs))
+    let fact = hold(prop(alloc, tokens)?);
+    let (proofs, _) = by_end(alloc, tokens)?;
+    Ok(StepNode::Have(fact.out(), proofs))
 }
 
 pub(crate) fn law(alloc: Global, tokens: &mut Tokens<'_>) -> Result<StepNode, Stop>
@@ -61,10 +57,7 @@ pub(crate) fn law(alloc: Global, tokens: &mut Tokens<'_>) -> Result<StepNode, St
 {
     tokens.take(Kind::Law)?;
     let name = tokens.name()?;
-    tokens.take(Kind::LeftParen)?;
-    let terms = terms(alloc, tokens)?;
-    let proofs = by(alloc, tokens)?;
-    tokens.take(Kind::Semicolon)?;
+    let (_, terms, proofs, _) = terms_by_end(alloc, tokens)?;
     Ok(StepNode::Law(name_of(alloc, name)?, terms, proofs))
 }
 
@@ -87,7 +80,7 @@ pub(crate) fn rewrite(alloc: Global, tokens: &mut Tokens<'_>) -> Result<StepNode
     tokens.take(Kind::Rewrite)?;
     let backwards = back(tokens)?;
     let first = tokens.index()?;
-    let place = occurrence(alloc, tokens)?;
+    let place = hold(occurrence(alloc, tokens)?);
     tokens.take(Kind::Semicolon)?;
-    Ok(StepNode::Rewrite(backwards, first.value as u32, place))
+    Ok(StepNode::Rewrite(backwards, first.value as u32, place.out()))
 }

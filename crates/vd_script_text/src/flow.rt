@@ -5,8 +5,7 @@ ghost use Rattle.vd_grammar.specs.Reads.{Reads};
 ghost use Rattle.vd_logic_grammar.specs.Grammar.{Phrase, Rule};
 ghost use Rattle.vd_logic_grammar.specs.Read.{read, read_rule};
 
-use crate::certificate::by;
-use crate::parts::at;
+use crate::endings::{at_by_end, terms_by_end};
 use std::alloc::Global;
 use vd_assertion_text::terms;
 use vd_grammar::Stop;
@@ -29,9 +28,7 @@ pub(crate) fn set(alloc: Global, tokens: &mut Tokens<'_>) -> Result<StepNode, St
     ensures shorter { OnOk result (length tokens.new < length tokens.old) }
 {
     tokens.take(Kind::Set)?;
-    let items = at(alloc, tokens)?;
-    let proofs = by(alloc, tokens)?;
-    tokens.take(Kind::Semicolon)?;
+    let (items, proofs, _) = at_by_end(alloc, tokens)?;
     Ok(StepNode::Set(items, proofs))
 }
 
@@ -42,9 +39,7 @@ pub(crate) fn load(alloc: Global, tokens: &mut Tokens<'_>) -> Result<StepNode, S
 {
     tokens.take(Kind::Load)?;
     let first = tokens.index()?;
-    let items = at(alloc, tokens)?;
-    let proofs = by(alloc, tokens)?;
-    tokens.take(Kind::Semicolon)?;
+    let (items, proofs, _) = at_by_end(alloc, tokens)?;
     Ok(StepNode::Load(first.value as u32, items, proofs))
 }
 
@@ -55,9 +50,7 @@ pub(crate) fn store(alloc: Global, tokens: &mut Tokens<'_>) -> Result<StepNode, 
 {
     tokens.take(Kind::Store)?;
     let first = tokens.index()?;
-    let items = at(alloc, tokens)?;
-    let proofs = by(alloc, tokens)?;
-    tokens.take(Kind::Semicolon)?;
+    let (items, proofs, _) = at_by_end(alloc, tokens)?;
     Ok(StepNode::Store(first.value as u32, items, proofs))
 }
 
@@ -67,10 +60,7 @@ pub(crate) fn break_loop(alloc: Global, tokens: &mut Tokens<'_>) -> Result<StepN
     ensures shorter { OnOk result (length tokens.new < length tokens.old) }
 {
     tokens.take(Kind::Break)?;
-    tokens.take(Kind::LeftParen)?;
-    let terms = terms(alloc, tokens)?;
-    let proofs = by(alloc, tokens)?;
-    tokens.take(Kind::Semicolon)?;
+    let (_, terms, proofs, _) = terms_by_end(alloc, tokens)?;
     Ok(StepNode::Break(terms, proofs))
 }
 
@@ -80,10 +70,7 @@ pub(crate) fn continue_loop(alloc: Global, tokens: &mut Tokens<'_>) -> Result<St
     ensures shorter { OnOk result (length tokens.new < length tokens.old) }
 {
     tokens.take(Kind::Continue)?;
-    tokens.take(Kind::LeftParen)?;
-    let terms = terms(alloc, tokens)?;
-    let proofs = by(alloc, tokens)?;
-    tokens.take(Kind::Semicolon)?;
+    let (_, terms, proofs, _) = terms_by_end(alloc, tokens)?;
     Ok(StepNode::Continue(terms, proofs))
 }
 
@@ -95,9 +82,7 @@ pub(crate) fn return_value(alloc: Global, tokens: &mut Tokens<'_>) -> Result<Ste
     tokens.take(Kind::Return)?;
     tokens.take(Kind::LeftParen)?;
     let terms = terms(alloc, tokens)?;
-    let items = at(alloc, tokens)?;
-    let proofs = by(alloc, tokens)?;
-    tokens.take(Kind::Semicolon)?;
+    let (items, proofs, _) = at_by_end(alloc, tokens)?;
     Ok(StepNode::Return(terms, items, proofs))
 }
 
@@ -107,9 +92,6 @@ pub(crate) fn fall(alloc: Global, tokens: &mut Tokens<'_>) -> Result<StepNode, S
     ensures shorter { OnOk result (length tokens.new < length tokens.old) }
 {
     tokens.take(Kind::Fall)?;
-    tokens.take(Kind::LeftParen)?;
-    let terms = terms(alloc, tokens)?;
-    let proofs = by(alloc, tokens)?;
-    tokens.take(Kind::Semicolon)?;
+    let (_, terms, proofs, _) = terms_by_end(alloc, tokens)?;
     Ok(StepNode::Fall(terms, proofs))
 }

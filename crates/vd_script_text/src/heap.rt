@@ -5,10 +5,11 @@ ghost use Rattle.vd_grammar.specs.Reads.{Reads};
 ghost use Rattle.vd_logic_grammar.specs.Grammar.{Phrase, Rule};
 ghost use Rattle.vd_logic_grammar.specs.Read.{read, read_rule};
 
-use crate::certificate::by;
+use crate::endings::{by_end, terms_by_end, two_by_end};
 use crate::parts::{forgotten, second};
 use std::alloc::Global;
-use vd_assertion_text::{term, terms};
+use vd_assertion_text::term;
+use vd_base::hold;
 use vd_grammar::Stop;
 use vd_logic::StepNode;
 use vd_logic_grammar::{Class, Kind, Tokens, name_of};
@@ -21,12 +22,12 @@ pub(crate) fn cut(alloc: Global, tokens: &mut Tokens<'_>) -> Result<StepNode, St
     tokens.take(Kind::Cut)?;
     let first = tokens.index()?;
     tokens.take(Kind::LeftParen)?;
-    let a = term(alloc, tokens)?;
+    let a = hold(term(alloc, tokens)?);
     tokens.take(Kind::Comma)?;
-    let b = term(alloc, tokens)?;
+    let b = hold(term(alloc, tokens)?);
     tokens.take(Kind::RightParen)?;
     tokens.take(Kind::Semicolon)?;
-    Ok(StepNode::Cut(first.value as u32, a, b))
+    Ok(StepNode::Cut(first.value as u32, a.out(), b.out()))
 }
 
 pub(crate) fn glue(tokens: &mut Tokens<'_>) -> Result<StepNode, Stop>
@@ -48,10 +49,9 @@ pub(crate) fn share(alloc: Global, tokens: &mut Tokens<'_>) -> Result<StepNode, 
 {
     tokens.take(Kind::Share)?;
     let first = tokens.index()?;
-    let part = term(alloc, tokens)?;
-    let proofs = by(alloc, tokens)?;
-    tokens.take(Kind::Semicolon)?;
-    Ok(StepNode::Share(first.value as u32, part, proofs))
+    let part = hold(term(alloc, tokens)?);
+    let (proofs, _) = by_end(alloc, tokens)?;
+    Ok(StepNode::Share(first.value as u32, part.out(), proofs))
 }
 
 pub(crate) fn unshare(alloc: Global, tokens: &mut Tokens<'_>) -> Result<StepNode, Stop>
@@ -60,10 +60,7 @@ pub(crate) fn unshare(alloc: Global, tokens: &mut Tokens<'_>) -> Result<StepNode
     ensures shorter { OnOk result (length tokens.new < length tokens.old) }
 {
     tokens.take(Kind::Unshare)?;
-    let first = tokens.index()?;
-    let second = tokens.index()?;
-    let proofs = by(alloc, tokens)?;
-    tokens.take(Kind::Semicolon)?;
+    let (first, second, proofs, _) = two_by_end(alloc, tokens)?;
     Ok(StepNode::Unshare(first.value as u32, second.value as u32, proofs))
 }
 
@@ -73,10 +70,7 @@ pub(crate) fn agree(alloc: Global, tokens: &mut Tokens<'_>) -> Result<StepNode, 
     ensures shorter { OnOk result (length tokens.new < length tokens.old) }
 {
     tokens.take(Kind::Agree)?;
-    let first = tokens.index()?;
-    let second = tokens.index()?;
-    let proofs = by(alloc, tokens)?;
-    tokens.take(Kind::Semicolon)?;
+    let (first, second, proofs, _) = two_by_end(alloc, tokens)?;
     Ok(StepNode::Agree(first.value as u32, second.value as u32, proofs))
 }
 
@@ -88,8 +82,7 @@ pub(crate) fn bounds(alloc: Global, tokens: &mut Tokens<'_>) -> Result<StepNode,
     tokens.take(Kind::Bounds)?;
     let first = tokens.index()?;
     let other = second(tokens)?;
-    let proofs = by(alloc, tokens)?;
-    tokens.take(Kind::Semicolon)?;
+    let (proofs, _) = by_end(alloc, tokens)?;
     Ok(StepNode::Bounds(first.value as u32, other, proofs))
 }
 
@@ -99,10 +92,7 @@ pub(crate) fn apart(alloc: Global, tokens: &mut Tokens<'_>) -> Result<StepNode, 
     ensures shorter { OnOk result (length tokens.new < length tokens.old) }
 {
     tokens.take(Kind::Apart)?;
-    let first = tokens.index()?;
-    let second = tokens.index()?;
-    let proofs = by(alloc, tokens)?;
-    tokens.take(Kind::Semicolon)?;
+    let (first, second, proofs, _) = two_by_end(alloc, tokens)?;
     Ok(StepNode::Apart(first.value as u32, second.value as u32, proofs))
 }
 
@@ -112,9 +102,9 @@ pub(crate) fn forget(alloc: Global, tokens: &mut Tokens<'_>) -> Result<StepNode,
     ensures shorter { OnOk result (length tokens.new < length tokens.old) }
 {
     tokens.take(Kind::Forget)?;
-    let what = forgotten(alloc, tokens)?;
+    let what = hold(forgotten(alloc, tokens)?);
     tokens.take(Kind::Semicolon)?;
-    Ok(StepNode::Forget(what))
+    Ok(StepNode::Forget(what.out()))
 }
 
 pub(crate) fn meet(alloc: Global, tokens: &mut Tokens<'_>) -> Result<StepNode, Stop>
@@ -123,10 +113,7 @@ pub(crate) fn meet(alloc: Global, tokens: &mut Tokens<'_>) -> Result<StepNode, S
     ensures shorter { OnOk result (length tokens.new < length tokens.old) }
 {
     tokens.take(Kind::Meet)?;
-    tokens.take(Kind::LeftParen)?;
-    let terms = terms(alloc, tokens)?;
-    let proofs = by(alloc, tokens)?;
-    tokens.take(Kind::Semicolon)?;
+    let (_, terms, proofs, _) = terms_by_end(alloc, tokens)?;
     Ok(StepNode::Meet(terms, proofs))
 }
 
@@ -138,7 +125,7 @@ pub(crate) fn name(alloc: Global, tokens: &mut Tokens<'_>) -> Result<StepNode, S
     tokens.take(Kind::NameWord)?;
     let name = tokens.name()?;
     tokens.take(Kind::Equal)?;
-    let value = term(alloc, tokens)?;
+    let value = hold(term(alloc, tokens)?);
     tokens.take(Kind::Semicolon)?;
-    Ok(StepNode::Name(name_of(alloc, name)?, value))
+    Ok(StepNode::Name(name_of(alloc, name)?, value.out()))
 }

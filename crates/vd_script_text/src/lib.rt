@@ -3,6 +3,7 @@
 
 mod call;
 mod certificate;
+mod endings;
 mod fact;
 mod flow;
 mod heap;
