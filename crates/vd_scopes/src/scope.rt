@@ -23,9 +23,9 @@ pub struct Scopes {
 fn signature_of(alloc: Global, spec: &Spec) -> Result<Signature, AllocError>
     ensures { IfOk result (λ s. s ≡ record { ret = spec.now.ret; name = spec.now.name; params = spec.now.params }) }
 {
-    let ret = spec.ret.copy(alloc)?;
     let name = spec.name.copy(alloc)?;
     let params = copy_fields(alloc, &spec.params)?;
+    let ret = spec.ret.copy(alloc)?;
     Ok(Signature { ret, name, params })
 }
 

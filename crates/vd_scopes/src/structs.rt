@@ -109,10 +109,10 @@ pub(crate) fn structs_of(alloc: Global, view: &View<'_, '_>) -> Result<Structs, 
     requires one { IsUnambiguous view.now.parts.now 0 }
     ensures { IfOk result (HasStructs view.now.parts.now) }
 {
-    let mut structs = Structs::new(alloc);
     let order = struct_order(alloc, view)?;
-    pass(alloc, &mut structs, order.as_slice())?;
     let seen = structs_seen(alloc, view)?;
+    let mut structs = Structs::new(alloc);
+    pass(alloc, &mut structs, order.as_slice())?;
     settle(alloc, &mut structs, seen)?;
     Ok(structs)
 }

@@ -12,7 +12,7 @@ use crate::contents::part_of;
 use crate::scope::{Scopes, scopes_of};
 use std::alloc::{AllocError, Global};
 use thiserror::Error;
-use vd_base::{List, Text};
+use vd_base::{List, Text, hold};
 use vd_heads::{Content, Part, Table, View, least};
 use vd_known::{Bodies, first_lack, first_twice, first_unknown};
 use vd_outline::head_of;
@@ -66,11 +66,11 @@ fn first_failing(alloc: Global, view: &View<'_, '_>) -> Result<Option<(u32, u8)>
     if let Some(place) = first_twice(alloc, view)? {
         return Ok(Some((place, 3)));
     }
-    let sizes = Sizes::of(alloc, view)?;
-    if let Some(place) = first_disagreement(alloc, view, &sizes)? {
+    let sizes = hold(Sizes::of(alloc, view)?);
+    if let Some(place) = first_disagreement(alloc, view, sizes.get())? {
         return Ok(Some((place, 4)));
     }
-    match sizes.first_large(alloc, view)? {
+    match sizes.get().first_large(alloc, view)? {
         Some(place) => Ok(Some((place, 5))),
         None => Ok(None),
     }
@@ -134,8 +134,8 @@ fn first_refusal(
 fn judged(alloc: Global, parts: &[Part], lines: Option<&Text>) -> Result<Scopes, HeadFault>
     ensures { Answers parts.now (option_copied lines.entry) result }
 {
-    let table = Table::of(alloc, parts)?;
-    let own = View::of(alloc, parts, &table, 0)?;
+    let table = hold(Table::of(alloc, parts)?);
+    let own = View::of(alloc, parts, table.get(), 0)?;
     match first_refusal(alloc, &own, lines)? {
         Some((place, condition)) => Err(HeadFault::Refused(place, condition)),
         None => Ok(scopes_of(alloc, &own)?),
