@@ -6,7 +6,7 @@ ghost use Rattle.vd_form.specs.Sections.{Finds, IsTyped, IsTypedAs, own_scope};
 use crate::plain::is_plain_function;
 use crate::simple::is_simple_function;
 use std::alloc::{AllocError, Global};
-use vd_base::{List, Structs, Text, copy_fields};
+use vd_base::{List, Structs, Text, copy_fields, hold};
 use vd_clight::{CScope, FnText, Signature, TypedFn};
 use vd_cparse::parse_section;
 use vd_ctyping::{TypeFault, type_fn, typing_laws};
@@ -15,10 +15,10 @@ use vd_grammar::ParseFault;
 fn own_scope(alloc: Global, f: &FnText) -> Result<CScope, AllocError>
     ensures { IfOk result (λ scope. scope ≡ own_scope f.now) }
 {
-    let ret = f.ret.copy(alloc)?;
+    let mut fns = List::new(alloc);
     let name = f.name.copy(alloc)?;
     let params = copy_fields(alloc, &f.params)?;
-    let mut fns = List::new(alloc);
+    let ret = f.ret.copy(alloc)?;
     fns.push(Signature { ret, name, params })?;
     Ok(CScope {
         structs: Structs::new(alloc),
@@ -35,11 +35,12 @@ fn typed_as(alloc: Global, f: &FnText) -> Result<Option<TypedFn>, AllocError>
     if !is_plain_function(f) {
         return Ok(None);
     }
-    let scope = own_scope(alloc, f)?;
-    match type_fn(alloc, &scope, f) {
+    let scope = hold(own_scope(alloc, f)?);
+    match type_fn(alloc, scope.get(), f) {
         Ok(typed) => {
-            if is_simple_function(&typed) {
-                Ok(Some(typed))
+            let typed = hold(typed);
+            if is_simple_function(typed.get()) {
+                Ok(Some(typed.out()))
             } else {
                 Ok(None)
             }
