@@ -6,7 +6,7 @@ ghost use Rattle.vd_form.specs.Sections.{Finds, IsTyped, IsTypedAs, own_scope};
 use crate::plain::is_plain_function;
 use crate::simple::is_simple_function;
 use std::alloc::{AllocError, Global};
-use vd_base::{List, Structs, Text, copy_fields, hold};
+use vd_base::{Held, List, Structs, Text, copy_fields, hold};
 use vd_clight::{CScope, FnText, Signature, TypedFn};
 use vd_cparse::parse_section;
 use vd_ctyping::{TypeFault, type_fn, typing_laws};
@@ -28,7 +28,7 @@ fn own_scope(alloc: Global, f: &FnText) -> Result<CScope, AllocError>
 }
 
 /// The typed function, where the function and it have the form.
-fn typed_as(alloc: Global, f: &FnText) -> Result<Option<TypedFn>, AllocError>
+fn typed_as(alloc: Global, f: &FnText) -> Result<Option<Held<TypedFn>>, AllocError>
     ensures { IfOk result (Finds (IsTypedAs f.now)) }
 {
     typing_laws();
@@ -40,7 +40,7 @@ fn typed_as(alloc: Global, f: &FnText) -> Result<Option<TypedFn>, AllocError>
         Ok(typed) => {
             let typed = hold(typed);
             if is_simple_function(typed.get()) {
-                Ok(Some(typed.out()))
+                Ok(Some(typed))
             } else {
                 Ok(None)
             }
@@ -53,7 +53,7 @@ fn typed_as(alloc: Global, f: &FnText) -> Result<Option<TypedFn>, AllocError>
 }
 
 /// The typed function of a `fn` section, where the section has the form.
-pub fn read_typed(alloc: Global, section: &Text) -> Result<Option<TypedFn>, AllocError>
+pub fn read_typed(alloc: Global, section: &Text) -> Result<Option<Held<TypedFn>>, AllocError>
     ensures { IfOk result (Finds (IsTyped section.now)) }
 {
     match parse_section(alloc, section) {

@@ -5,17 +5,18 @@ ghost use Rattle.vd_form.specs.Sections.{Finds, IsScript, IsSpecification, spec_
 
 use crate::plain::{are_plain_steps, is_plain_spec};
 use std::alloc::{AllocError, Global};
-use vd_base::{List, Text};
+use vd_base::{Held, List, Text, hold};
 use vd_grammar::ParseFault;
 use vd_logic::{Spec, Step};
 use vd_sparse::{LogicText, parse_logic};
 
-fn spec_in(said: LogicText) -> Option<Spec>
+fn spec_in(said: LogicText) -> Option<Held<Spec>>
     ensures { result ≡ spec_in said }
 {
     match said {
         LogicText::Spec(spec, _) => {
-            if is_plain_spec(&spec) {
+            let spec = hold(spec);
+            if is_plain_spec(spec.get()) {
                 Some(spec)
             } else {
                 None
@@ -41,7 +42,7 @@ fn steps_in(said: LogicText) -> Option<List<Step>>
 }
 
 /// The specification of a `spec` section, where the section has the form.
-pub fn read_specification(alloc: Global, section: &Text) -> Result<Option<Spec>, AllocError>
+pub fn read_specification(alloc: Global, section: &Text) -> Result<Option<Held<Spec>>, AllocError>
     ensures { IfOk result (Finds (IsSpecification section.now)) }
 {
     match parse_logic(alloc, section) {
