@@ -66,11 +66,11 @@ fn first_failing(alloc: Global, view: &View<'_, '_>) -> Result<Option<(u32, u8)>
     if let Some(place) = first_twice(alloc, view)? {
         return Ok(Some((place, 3)));
     }
-    let sizes = hold(Sizes::of(alloc, view)?);
-    if let Some(place) = first_disagreement(alloc, view, sizes.get())? {
+    let sizes = Sizes::of(alloc, view)?;
+    if let Some(place) = first_disagreement(alloc, view, &sizes)? {
         return Ok(Some((place, 4)));
     }
-    match sizes.get().first_large(alloc, view)? {
+    match sizes.first_large(alloc, view)? {
         Some(place) => Ok(Some((place, 5))),
         None => Ok(None),
     }
