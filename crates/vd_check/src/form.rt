@@ -7,19 +7,29 @@ ghost use Rattle.vd_form.specs.Sections.{Finds, IsTyped, IsSpecification, IsScri
 ghost use Rattle.vd_check.specs.Form.{main, text_of, Under, HasParts, Lists, IsUnit, IsLink, AreNamed, ArePair};
 
 use std::alloc::{AllocError, Global};
-use vd_base::{List, Name, Text};
+use vd_base::{Held, List, Name, Text};
 use vd_clight::TypedFn;
 use vd_form::{read_names, read_script, read_specification, read_typed};
 use vd_logic::{Spec, Step};
 use vd_outline::{Outline, OutlineFault, Section, SectionKind, TextKind, find, outline_of};
 
-/// What a unit of the form holds.
-#[derive(Drop)]
+/// What a unit of the form holds. Its drop is written by hand, so that each exit that lets go of it is one call.
 pub struct UnitParts {
     pub name: Name,
-    pub spec: Spec,
-    pub typed: TypedFn,
+    pub spec: Held<Spec>,
+    pub typed: Held<TypedFn>,
     pub steps: List<Step>,
+}
+
+impl Drop for UnitParts {
+    fn drop(self) {
+        let UnitParts {
+            name: _,
+            spec: _,
+            typed: _,
+            steps: _,
+        } = self;
+    }
 }
 
 /// What a link holds.
@@ -30,12 +40,22 @@ pub struct LinkParts {
 }
 
 /// A unit, and the link that lists it alone, with their versions.
-#[derive(Drop)]
 pub struct Pair {
     pub unit: UnitParts,
     pub unit_version: u32,
     pub link: Name,
     pub link_version: u32,
+}
+
+impl Drop for Pair {
+    fn drop(self) {
+        let Pair {
+            unit: _,
+            unit_version: _,
+            link: _,
+            link_version: _,
+        } = self;
+    }
 }
 
 // ---- sections
@@ -60,7 +80,7 @@ fn text_of<'a>(sections: &'a [Section], kind: SectionKind, name: Option<&[u8]>) 
     }
 }
 
-fn specification_of(alloc: Global, sections: &[Section]) -> Result<Option<Spec>, AllocError>
+fn specification_of(alloc: Global, sections: &[Section]) -> Result<Option<Held<Spec>>, AllocError>
     ensures { IfOk result (Finds (λ s. Under kind.Spec main sections.now (λ text. IsSpecification text s))) }
 {
     match text_of(sections, SectionKind::Spec, Some(b"main")) {
@@ -87,7 +107,7 @@ fn units_of(alloc: Global, sections: &[Section]) -> Result<Option<List<Name>>, A
     }
 }
 
-fn typed_of(alloc: Global, sections: &[Section]) -> Result<Option<TypedFn>, AllocError>
+fn typed_of(alloc: Global, sections: &[Section]) -> Result<Option<Held<TypedFn>>, AllocError>
     ensures { IfOk result (Finds (λ t. Under kind.Fn main sections.now (λ text. IsTyped text t))) }
 {
     match text_of(sections, SectionKind::Fn, Some(b"main")) {

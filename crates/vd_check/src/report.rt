@@ -8,10 +8,18 @@ use vd_base::{List, Name, Text};
 use vd_store::{Report, Verdict, WorkKind, WorkName};
 
 /// A work, and what is found of it.
-#[derive(Drop)]
 pub struct Finding {
     pub work: WorkName,
     pub verdict: Verdict,
+}
+
+impl Drop for Finding {
+    fn drop(self) {
+        let Finding {
+            work: _,
+            verdict: _,
+        } = self;
+    }
 }
 
 /// A link condition that fails: its number, and the words that stand behind it in the report.

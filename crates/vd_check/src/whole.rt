@@ -10,7 +10,7 @@ use crate::form::{Pair, read_pair};
 use crate::report::{Failure, Finding, are_accepted, report_of};
 use crate::script::judge;
 use std::alloc::{AllocError, Global};
-use vd_base::{List, Name, NameFault};
+use vd_base::{List, Name, NameFault, hold};
 use vd_outline::outline_laws;
 use vd_store::{Linkset, Outcome, Snapshot, Verdict, WorkKind, WorkName};
 
@@ -28,25 +28,26 @@ fn main_name(alloc: Global) -> Result<Name, AllocError>
 fn findings_of(alloc: Global, unit: &Name, body: Verdict) -> Result<List<Finding>, AllocError>
     ensures { IfOk result (λ findings. findings ≡ findings_of unit.now body) }
 {
-    let header = Finding {
+    let main = main_name(alloc)?;
+    let owner = unit.copy(alloc)?;
+    let header_owner = unit.copy(alloc)?;
+    let mut findings = List::new(alloc);
+    findings.push(Finding {
         work: WorkName {
             kind: WorkKind::Header,
-            owner: unit.copy(alloc)?,
+            owner: header_owner,
             function: None,
         },
         verdict: Verdict::Accepted,
-    };
-    let body = Finding {
+    })?;
+    findings.push(Finding {
         work: WorkName {
             kind: WorkKind::Body,
-            owner: unit.copy(alloc)?,
-            function: Some(main_name(alloc)?),
+            owner,
+            function: Some(main),
         },
         verdict: body,
-    };
-    let mut findings = List::new(alloc);
-    findings.push(header)?;
-    findings.push(body)?;
+    })?;
     Ok(findings)
 }
 
@@ -80,16 +81,21 @@ fn check_pair(alloc: Global, pair: &Pair, asked: &Name) -> Result<Outcome, Alloc
         return Ok(Outcome::NoLink);
     }
     let unit = &pair.unit;
-    let body = judge(alloc, &unit.spec.post, &unit.typed, unit.steps.as_slice())?;
+    let body = judge(
+        alloc,
+        &unit.spec.get().post,
+        unit.typed.get(),
+        unit.steps.as_slice(),
+    )?;
     let findings = findings_of(alloc, &unit.name, body)?;
     let findings = findings.as_slice();
-    let failure = failure_of(alloc, findings);
-    let report = report_of(alloc, findings, &pair.link, &failure)?;
+    let failure = hold(failure_of(alloc, findings));
+    let report = hold(report_of(alloc, findings, &pair.link, failure.get())?);
     if are_accepted(findings) {
         let set = linkset_of(alloc, pair)?;
-        Ok(Outcome::Accepted(set, report))
+        Ok(Outcome::Accepted(set, report.out()))
     } else {
-        Ok(Outcome::Rejected(report))
+        Ok(Outcome::Rejected(report.out()))
     }
 }
 
