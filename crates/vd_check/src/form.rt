@@ -80,10 +80,17 @@ fn text_of<'a>(sections: &'a [Section], kind: SectionKind, name: Option<&[u8]>) 
     }
 }
 
+/// The text of the section of this kind that speaks of `main`.
+fn text_of_main<'a>(sections: &'a [Section], kind: SectionKind) -> Option<&'a Text>
+    ensures { option_copied result ≡ text_of kind main sections.now }
+{
+    text_of(sections, kind, Some(b"main"))
+}
+
 fn specification_of(alloc: Global, sections: &[Section]) -> Result<Option<Held<Spec>>, AllocError>
     ensures { IfOk result (Finds (λ s. Under kind.Spec main sections.now (λ text. IsSpecification text s))) }
 {
-    match text_of(sections, SectionKind::Spec, Some(b"main")) {
+    match text_of_main(sections, SectionKind::Spec) {
         Some(text) => read_specification(alloc, text),
         None => Ok(None),
     }
@@ -92,7 +99,7 @@ fn specification_of(alloc: Global, sections: &[Section]) -> Result<Option<Held<S
 fn script_of(alloc: Global, sections: &[Section]) -> Result<Option<List<Step>>, AllocError>
     ensures { IfOk result (Finds (λ steps. Under kind.Script main sections.now (λ text. IsScript text steps))) }
 {
-    match text_of(sections, SectionKind::Script, Some(b"main")) {
+    match text_of_main(sections, SectionKind::Script) {
         Some(text) => read_script(alloc, text),
         None => Ok(None),
     }
@@ -110,7 +117,7 @@ fn units_of(alloc: Global, sections: &[Section]) -> Result<Option<List<Name>>, A
 fn typed_of(alloc: Global, sections: &[Section]) -> Result<Option<Held<TypedFn>>, AllocError>
     ensures { IfOk result (Finds (λ t. Under kind.Fn main sections.now (λ text. IsTyped text t))) }
 {
-    match text_of(sections, SectionKind::Fn, Some(b"main")) {
+    match text_of_main(sections, SectionKind::Fn) {
         Some(text) => read_typed(alloc, text),
         None => Ok(None),
     }

@@ -107,19 +107,25 @@ fn put_words(line: &mut Text, words: &[Text]) -> Result<(), AllocError>
     Ok(())
 }
 
+fn put_failure(alloc: Global, line: &mut Text, failure: &Option<Failure>) -> Result<(), AllocError>
+    ensures { OnOk result (line.new ≡ line.old ++ failure_text failure.now) }
+{
+    match failure {
+        None => line.append(b" ok"),
+        Some(failure) => {
+            line.append(b" refused")?;
+            put_number(alloc, line, u32::from(failure.condition))?;
+            put_words(line, failure.words.as_slice())
+        }
+    }
+}
+
 fn link_text(alloc: Global, link: &Name, failure: &Option<Failure>) -> Result<Text, AllocError>
     ensures { IfOk result (λ line. line ≡ link_text link.now failure.now) }
 {
     let mut line = Text::new(alloc, b"link")?;
     put_word(&mut line, link.as_bytes())?;
-    match failure {
-        None => line.append(b" ok")?,
-        Some(failure) => {
-            line.append(b" refused")?;
-            put_number(alloc, &mut line, u32::from(failure.condition))?;
-            put_words(&mut line, failure.words.as_slice())?;
-        }
-    }
+    put_failure(alloc, &mut line, failure)?;
     Ok(line)
 }
 
