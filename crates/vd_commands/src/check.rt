@@ -1,4 +1,4 @@
-// The command `check`.
+//! The command `check`.
 ghost use Rattle.std.specs.Prelude.{◌≡◌, ◌≤◌, ◌++◌, map, string_bytes, Some, IfOk, MatchOption, codes};
 ghost use Rattle.vd_commands.specs.Command.{Bytes, CommandLine, command_of, Check};
 ghost use Rattle.vd_commands.specs.Answer.{AreCheckable, Checks, answer_of, written_text};

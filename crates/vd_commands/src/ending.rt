@@ -1,4 +1,4 @@
-// How a call ends, its status, and its line on the error stream.
+//! How a call ends, its status, and its line on the error stream.
 ghost use Rattle.std.specs.Prelude.{◌≡◌, ◌⊎◌, ◌≤◌, ◌++◌, ◌∷◌, Some, IfOk, codes, decimal};
 ghost use Rattle.vd_commands.specs.Command.{Bytes};
 ghost use Rattle.vd_commands.specs.Call.{TellsEnding, status_of};

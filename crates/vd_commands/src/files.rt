@@ -1,4 +1,4 @@
-// The files of a command.
+//! The files of a command.
 ghost use Rattle.std.specs.Prelude.{◌≡◌, ◌≤◌, map, string_bytes, Some, IfOk, IfErr};
 ghost use Rattle.vd_commands.specs.Call.{Means};
 ghost use Rattle.vd_commands.specs.Command.{Bytes, Check, Command, CommandLine, command_of};

@@ -1,4 +1,4 @@
-// What `play` reads: a schedule, and texts with limits over all of them.
+//! What `play` reads: a schedule, and texts with limits over all of them.
 ghost use Rattle.std.specs.Prelude.{◌≡◌, ◌≤◌, ◌++◌, ◌∷◌, [], map, string_bytes, IfOk, IfErr, OnOk, MatchResult, length};
 ghost use Rattle.vd_schedule.specs.Schedule.{HasTooMany};
 ghost use Rattle.vd_commands.specs.Command.{Bytes, Play};

@@ -1,4 +1,4 @@
-// The lines that `play` writes of a run.
+//! The lines that `play` writes of a run.
 ghost use Rattle.std.specs.Prelude.{◌≡◌, ◌++◌, ◌∷◌, IfOk, codes, decimal};
 ghost use Rattle.vd_commands.specs.Play.{cause_word, end_line, goes_well, is_unstuck, lines_of, race_line, signed, turns_line, value_words};
 

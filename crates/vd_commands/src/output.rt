@@ -1,4 +1,4 @@
-// What is written to the output, a line by one put.
+//! What is written to the output, a line by one put.
 ghost use Rattle.std.specs.Prelude.{◌≡◌, ◌≤◌, ◌++◌, ◌∷◌, [], IfOk};
 ghost use Rattle.vd_outline.specs.Lines.{joined};
 ghost use Rattle.vd_commands.specs.Steps.{Writes};

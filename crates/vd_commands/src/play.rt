@@ -1,4 +1,4 @@
-// The command `play`.
+//! The command `play`.
 ghost use Rattle.std.specs.Prelude.{◌≡◌, ◌↔◌, ◌≤◌, map, string_bytes, Some, IfOk, IsTrue, MatchOption, All, length};
 ghost use Rattle.vd_linkage.specs.Form.{IsPlainText};
 ghost use Rattle.vd_schedule.specs.Schedule.{IsSchedule, turn_limit};

@@ -1,4 +1,4 @@
-// The snapshot that texts make.
+//! The snapshot that texts make.
 ghost use Rattle.std.specs.Prelude.{◌≡◌, ◌↔◌, ◌<◌, ◌^◌, true, false, IfOk, MatchOption, All};
 ghost use Rattle.vd_commands.specs.Submission.{Entries, IsFirstHeadlessAt, IsHeaded, IsHeadless, PutsText, Submits};
 

@@ -5,4 +5,4 @@
 mod top;
 
 pub use top::{desk_top, plain_top};
-pub use vd_commands::no_memory;
+pub use vd_commands::ending::no_memory;

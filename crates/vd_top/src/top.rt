@@ -1,4 +1,4 @@
-// The top calls.
+//! The top calls.
 ghost use Rattle.std.specs.Prelude.{◌≡◌, ◌≤◌, map, string_bytes};
 ghost use Rattle.vd_commands.specs.Command.{Bytes};
 ghost use Rattle.vd_commands.specs.Call.{Means};
@@ -8,7 +8,10 @@ ghost use Rattle.vd_top.specs.Ends.{Ends};
 
 use std::alloc::Global;
 use vd_base::{Shelf, Sink};
-use vd_commands::{Ending, Words, check, command_of, play, status_of, tell};
+use vd_commands::check::check;
+use vd_commands::command::{Words, command_of};
+use vd_commands::ending::{Ending, status_of, tell};
+use vd_commands::play::play;
 
 fn run<'a, H: Shelf, K: Sink>(
     alloc: Global,
