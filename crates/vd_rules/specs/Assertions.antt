@@ -1,4 +1,4 @@
--- Terms of facts and items, their equality and their sorts.
+-- Facts and items: their terms, when two are equal, and their sorts.
 use Rattle.std.specs.List.{list_all}
 use Rattle.std.specs.Prelude.{Bool, List, None, Option, Some, [], false, true, ◌&&◌, ◌++◌, ◌||◌, ◌∷◌}
 use Rattle.std.specs.Str.{bytes_eq}
@@ -64,7 +64,8 @@ abbrev pub is_sorted : Term → Bool
 is_sorted t = has_sort sort.Int t || (has_sort sort.Val t || has_sort sort.List t)
 
 abbrev pub of_one_sort : Term → Term → Bool
-of_one_sort a b = (has_sort sort.Int a && has_sort sort.Int b) || ((has_sort sort.Val a && has_sort sort.Val b) || (has_sort sort.List a && has_sort sort.List b))
+of_one_sort a b =
+    (has_sort sort.Int a && has_sort sort.Int b) || ((has_sort sort.Val a && has_sort sort.Val b) || (has_sort sort.List a && has_sort sort.List b))
 
 abbrev pub is_sorted_fact : Fact → Bool
 is_sorted_fact (Rel rel.Eq a b) = of_one_sort a b

@@ -20,6 +20,7 @@ use Rattle.vd_rules.specs.Values.{Valued, covered, in_range, number, operand, va
 abbrev pub Branches : Type 0
 Branches = Fact × Fact
 
+-- the two facts the other way round
 unfoldable pub exchanged : Valued Branches → Valued Branches
 exchanged b = valued (b.value.1, b.value.0) b.owed b.covers
 
@@ -51,6 +52,7 @@ unfoldable pub compared_by : BinOp → Kind → Valued Term → Valued Term → 
 compared_by o l a b =
     option_map (λ pq. valued pq (a.owed ++ (b.owed ++ (in_range l a.value ++ in_range l b.value))) b.covers) (comparison o a.value b.value)
 
+-- a comparison of two integers
 unfoldable pub compared : State → BinOp → Kind → Expr → Expr → List ℕ → Option (Valued Branches)
 compared s o l d e covers =
     option_and_then (λ a. option_and_then (compared_by o l a) (option_and_then operand (value s e a.covers))) (option_and_then operand (value s d covers))
@@ -75,9 +77,11 @@ equates_with_zero v p = false
 unfoldable pub is_null : State → Term → Bool
 is_null s v = same v zero_value || list_any (equates_with_zero v) s.facts
 
+-- an operand that may be a pointer takes a cover
 unfoldable pub covered_unless_null : State → Term → Valued Term → Option (Valued Term)
 covered_unless_null s p v = elim (is_null s p) [ true ↦ Some v | false ↦ covered s p v v.covers ]
 
+-- equal and not, by the flag of the test
 unfoldable pub equality : Bool → Term → Term → Valued Term → Valued Branches
 equality true a b v = valued (Rel rel.Eq a b, Rel rel.Ne a b) v.owed v.covers
 equality false a b v = valued (Rel rel.Ne a b, Rel rel.Eq a b) v.owed v.covers
@@ -90,10 +94,12 @@ both_owe a b = valued b.value (a.owed ++ b.owed) b.covers
 unfoldable pub both_covered : State → Valued Term → Valued Term → Option (Valued Term)
 both_covered s a b = option_and_then (covered_unless_null s b.value) (covered_unless_null s a.value (both_owe a b))
 
+-- two pointers compared: their values, then their covers
 unfoldable pub pointer_test : State → Expr → Expr → Bool → List ℕ → Option (Valued Branches)
 pointer_test s d e flag covers =
     option_and_then (λ a. option_and_then (λ b. option_map (equality flag a.value b.value) (both_covered s a b)) (value s e a.covers)) (value s d covers)
 
+-- a condition of `if`
 unfoldable pub condition : State → Cond → List ℕ → Option (Valued Branches)
 condition s (c.Nonzero k e) covers = truth s k e covers
 condition s (c.Pointers d e flag) covers = pointer_test s d e flag covers

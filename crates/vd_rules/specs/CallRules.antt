@@ -90,6 +90,7 @@ abbrev pub result_of : Spec → List Term → Term
 result_of spec [] = Undef
 result_of spec (v ∷ vs) = cond spec.is_void Undef v
 
+-- the temporary that keeps the result
 unfoldable pub set_target : Option ℕ → Term → State → State
 set_target None t s = s
 set_target (Some x) t s = set_local x (Some t) s
@@ -103,13 +104,16 @@ unfoldable pub after_call : Spec → List Term → Option ℕ → List Name → 
 after_call spec us x names vs s =
     set_target x (result_of spec vs) (with_post (with_terms spec.post (us ++ with_result spec vs)) (add_variables names (opened_sorts spec) s))
 
+-- with the specification, its terms and the arguments
 unfoldable pub call_with : State → Spec → List Term → Option ℕ → Valued (List Term) → List Certificate → List Name → Checked (List State)
 call_with s spec us x v by names = do
   left ← given_up s spec.params (with_terms spec.pre us) v by
   tested 6 (can_open s names (opened_sorts spec))
   Passed (after_call spec us x names (fresh s (opened_sorts spec)) (with_items left s) ∷ [])
 
-unfoldable pub call_state : State → Option Spec → Option ℕ → List Expr → List Term → List ℕ → List Certificate → List Name → Checked (List State)
+-- the terms, the arguments, the specification
+unfoldable pub call_state : State → Option Spec → Option ℕ → List Expr → List Term → List ℕ → List Certificate → List Name
+    → Checked (List State)
 call_state s f x es ts covers by names = do
   us ← required 1 (sorted_terms s ts)
   tested 1 (fits_call f s x ts (length es))
@@ -128,6 +132,7 @@ abbrev pub as_malloc : Stmts → Option (ℕ × ℕ × Stmts)
 as_malloc (c.Then (c.Malloc x n) rest) = Some (x, n, rest)
 as_malloc xs = None
 
+-- the cells of a new block, all of its share, and the right to free it
 unfoldable pub block_items : Term → Term → List Item
 block_items v cells = Data (Number (pos 64)) v (Of2 Rep Undef cells) ∷ Token v cells ∷ []
 
@@ -136,6 +141,7 @@ unfoldable pub with_block : Name → ℕ → Term → Term → State → State
 with_block name x cells v s =
     set_local x (Some v) (add_items (block_items v cells) (add_facts (IsPtr v ∷ []) (add_variables (name ∷ []) (sort.Val ∷ []) s)))
 
+-- without memory, and with it
 unfoldable pub malloc_children : Node → ℕ → ℕ → Stmts → Name → List Node
 malloc_children n x cells rest name =
     next rest (set_local x (Some zero_value) n.state) n
@@ -153,14 +159,17 @@ abbrev pub as_free : Stmts → Option (Expr × Stmts)
 as_free (c.Then (c.Free e) rest) = Some (e, rest)
 as_free xs = None
 
+-- all of its share, and as many cells as the block has
 unfoldable pub free_owes : Term × Term × Term → Term × Term → List Owed → List Owed
 free_owes d t owed = owed ++ (whole_share d.0 ∷ equal (Of Len d.2) t.1 ∷ [])
 
+-- both items are at the address
 unfoldable pub freed : State → ℕ → ℕ → Term × Term × Term → Term × Term → Valued Term → List Certificate → Checked (List State)
 freed s k m d t v by = do
   tested 1 (same v.value d.1 && same v.value t.0)
   owes_state s by (free_owes d t v.owed) (drop_items k m s)
 
+-- the items N and M, and the address
 unfoldable pub free_state : State → Expr → ℕ → ℕ → List Certificate → Checked (List State)
 free_state s e k m by = do
   d ← required 1 (data_at s k)
@@ -180,15 +189,18 @@ abbrev pub as_spawn : Stmts → Option (Name × Expr × Stmts)
 as_spawn (c.Then (c.Spawn f e) rest) = Some (f, e, rest)
 as_spawn xs = None
 
+-- a thread runs a function that returns nothing, with one parameter
 unfoldable pub fits_spawn : Option Spec → State → List Term → Bool
 fits_spawn None s ts = true
 fits_spawn (Some spec) s ts = spec.is_void && fits_spec spec s ts 1
 
+-- with the specification, its terms and the argument
 unfoldable pub spawn_with : State → Spec → List Term → Valued Term → List Certificate → Checked (List State)
 spawn_with s spec us v by = do
   left ← given_up s spec.params (with_terms spec.pre us) (valued (v.value ∷ []) v.owed v.covers) by
   Passed (with_items left s ∷ [])
 
+-- the terms, the argument, the specification
 unfoldable pub spawn_state : State → Option Spec → Expr → List Term → List ℕ → List Certificate → Checked (List State)
 spawn_state s f e ts covers by = do
   us ← required 1 (sorted_terms s ts)

@@ -32,23 +32,29 @@ changed (suc n) f (x ∷ xs) = x ∷ changed n f xs
 
 -- ---- PROP
 
+-- facts more, in normal form
 unfoldable pub add_facts : List Fact → State → State
 add_facts ps s = record s { facts = s.facts ++ map (map_fact normal) ps }
 
+-- a fact less, by its number
 unfoldable pub drop_fact : ℕ → State → State
 drop_fact k s = record s { facts = without k s.facts }
 
 -- ---- SEP
 
+-- items more, in normal form
 unfoldable pub add_items : List Item → State → State
 add_items is s = record s { items = s.items ++ map (map_item normal) is }
 
+-- an item less, by its number
 unfoldable pub drop_item : ℕ → State → State
 drop_item n s = record s { items = without n s.items }
 
+-- two items less, which are different
 unfoldable pub drop_items : ℕ → ℕ → State → State
 drop_items n m s = record s { items = without_two n m s.items }
 
+-- another item at a number
 unfoldable pub replace_item : ℕ → Item → State → State
 replace_item n i s = record s { items = changed n (λ j. i) s.items }
 
@@ -85,6 +91,7 @@ abbrev pub are_new : List (Name × Sort) → List Name → Bool
 are_new vars [] = true
 are_new vars (n ∷ ns) = not (list_any (λ v. bytes_eq v.0 n) vars) && (not (list_any (bytes_eq n) ns) && are_new vars ns)
 
+-- condition 6 of names for variables of these sorts
 unfoldable pub can_open : State → List Name → List Sort → Bool
 can_open s ns sorts = nat_eq (length ns) (length sorts) && are_new s.vars ns
 
@@ -102,6 +109,7 @@ variables_from k (s ∷ ss) = Var k s ∷ variables_from (suc k) ss
 unfoldable pub fresh : State → List Sort → List Term
 fresh s sorts = variables_from (count s) sorts
 
+-- variables more, with their names
 unfoldable pub add_variables : List Name → List Sort → State → State
 add_variables ns sorts s = record s { vars = s.vars ++ paired ns sorts }
 

@@ -29,11 +29,13 @@ use Rattle.vd_rules.specs.declared.checked.Checked.TheVariants.{Passed}
 unfoldable pub cut_items : Term × Term × Term → Term → Term → List Item
 cut_items d a b = Data d.0 d.1 a ∷ Data d.0 (Of2 Off d.1 (Of Len a)) b ∷ []
 
+-- the two lists are the list
 unfoldable pub cut_by : State → ℕ → Term × Term × Term → Term → Term → Checked (List State)
 cut_by s k d a b = do
   tested 1 (same (normal (Of2 App a b)) d.2)
   Passed (add_items (cut_items d a b) (drop_item k s) ∷ [])
 
+-- the item and the two lists
 unfoldable pub cut_state : State → ℕ → Term → Term → Checked (List State)
 cut_state s k t u = do
   d ← required 1 (data_at s k)
@@ -50,6 +52,7 @@ cut n k t u = lifted n (cut_state n.state k t u)
 unfoldable pub adjoin : Term × Term × Term → Term × Term × Term → Bool
 adjoin d e = same d.0 e.0 && same (normal (Of2 Off d.1 (Of Len d.2))) e.1
 
+-- data of both lists, one behind the other
 unfoldable pub glued_item : Term × Term × Term → Term × Term × Term → List Item
 glued_item d e = Data d.0 d.1 (Of2 App d.2 e.2) ∷ []
 
@@ -78,6 +81,7 @@ with_share t (Data s p l) = Data t p l
 with_share t (Lock s p l) = Lock t p l
 with_share t i = i
 
+-- each part has a share of at least 1
 unfoldable pub part_owes : Term → Term → List Fact
 part_owes s t = Rel rel.Le (Number (pos 1)) t ∷ Rel rel.Le (Of2 Add t (Number (pos 1))) s ∷ []
 
@@ -85,6 +89,7 @@ part_owes s t = Rel rel.Le (Number (pos 1)) t ∷ Rel rel.Le (Of2 Add t (Number 
 unfoldable pub part_items : Item → Term → Term → List Item
 part_items i s t = with_share t i ∷ with_share (Of2 Sub s t) i ∷ []
 
+-- the parts in place of the item
 unfoldable pub in_parts : State → ℕ → Item → Term → Term → State
 in_parts state k i s t = add_items (part_items i s t) (drop_item k state)
 
@@ -92,6 +97,7 @@ in_parts state k i s t = add_items (part_items i s t) (drop_item k state)
 unfoldable pub shared_by : State → ℕ → Item → Term → Term → List Certificate → Checked (List State)
 shared_by state k i s t by = owes_state state by (owing (part_owes s t)) (in_parts state k i s t)
 
+-- the item, its share, and that of the first part
 unfoldable pub share_state : State → ℕ → Term → List Certificate → Checked (List State)
 share_state state k t by = do
   i ← required 1 (slice_get state.items k)
@@ -118,9 +124,11 @@ united (Some (Data s p l)) (Some (Data t q m)) = joined_data (same p q && same l
 united (Some (Lock s p l)) (Some (Lock t q m)) = joined_lock (same p q && same_label l m) s t p l
 united i j = None
 
+-- a share is no more than the whole
 unfoldable pub whole_owes : Term → List Fact
 whole_owes s = Rel rel.Le s (Number (pos 64)) ∷ []
 
+-- one item in place of two
 unfoldable pub in_one : State → ℕ → ℕ → Item → State
 in_one s k m i = add_items (i ∷ []) (drop_items k m s)
 
@@ -135,6 +143,7 @@ unshare n k m by = lifted n (unshare_state n.state k m by)
 
 -- ---- 33 `agree N M [by] ;` data at equal bases; owes len(a) = len(b); adds a = b
 
+-- the lists are as long
 unfoldable pub lengths_owe : Term → Term → List Fact
 lengths_owe a b = Rel rel.Eq (Of Len a) (Of Len b) ∷ []
 
@@ -146,6 +155,7 @@ with_equal s a b = add_facts (Rel rel.Eq a b ∷ []) s
 unfoldable pub agreed : State → Term → Term → List Certificate → Checked (List State)
 agreed s a b by = owes_state s by (owing (lengths_owe a b)) (with_equal s a b)
 
+-- two data at one base
 unfoldable pub agree_state : State → ℕ → ℕ → List Certificate → Checked (List State)
 agree_state s k m by = do
   tested 1 (differ k m)
@@ -160,6 +170,7 @@ agree n k m by = lifted n (agree_state n.state k m by)
 -- ---- 34 `bounds N [M] [by] ;` data or lock; owes 1 <= len of N, and then of M, where that item is data; adds 1 <= s, s <= 64, isptr(p); with
 -- M at an equal base, s + t <= 64 alone
 
+-- a list has an element
 unfoldable pub is_filled : Term → List Fact
 is_filled l = Rel rel.Le (Number (pos 1)) (Of Len l) ∷ []
 
@@ -169,9 +180,11 @@ bounded (Some (Data s p l)) = Some (s, p, is_filled l)
 bounded (Some (Lock s p l)) = Some (s, p, [])
 bounded i = None
 
+-- a share lies between 1 and the whole, and its address is a pointer
 unfoldable pub share_bounds : Term → Term → List Fact
 share_bounds s p = Rel rel.Le (Number (pos 1)) s ∷ Rel rel.Le s (Number (pos 64)) ∷ IsPtr p ∷ []
 
+-- of one item
 unfoldable pub bounds_one : State → ℕ → List Certificate → Checked (List State)
 bounds_one s k by = do
   i ← required 1 (bounded (slice_get s.items k))
@@ -181,6 +194,7 @@ bounds_one s k by = do
 unfoldable pub bounded_by : State → Term × Term × List Fact → Term × Term × List Fact → List Certificate → Checked (List State)
 bounded_by s i j by = owes_state s by (owing (i.2 ++ j.2)) (add_facts (whole_owes (Of2 Add i.0 j.0)) s)
 
+-- of two items at one base
 unfoldable pub bounds_two : State → ℕ → ℕ → List Certificate → Checked (List State)
 bounds_two s k m by = do
   tested 1 (differ k m)
@@ -198,9 +212,11 @@ bounds n k m by = lifted n (bounds_state n.state k m by)
 
 -- ---- 35 `apart N M [by] ;` data; owes both lengths at least 1 and 65 <= s + t; adds p != q
 
+-- both have an element, and their shares are more than the whole
 unfoldable pub apart_owes : Term × Term × Term → Term × Term × Term → List Fact
 apart_owes d e = is_filled d.2 ++ (is_filled e.2 ++ Rel rel.Le (Number (pos 65)) (Of2 Add d.0 e.0) ∷ [])
 
+-- the state in which two addresses differ
 unfoldable pub with_apart : State → Term → Term → State
 with_apart s p q = add_facts (Rel rel.Ne p q ∷ []) s
 

@@ -35,6 +35,7 @@ use Rattle.vd_rules.specs.declared.state.OwedOf.TheVariants.{One}
 
 -- ---- 23 `split prop block block ;` adds the prop, or its negation; for `=`, `<=`, `<`
 
+-- what is so where a fact is not; an inequality has none here
 unfoldable pub negation : Fact → Option Fact
 negation (Rel rel.Eq a b) = Some (Rel rel.Ne a b)
 negation (Rel rel.Le a b) = Some (Rel rel.Lt b a)
@@ -71,6 +72,7 @@ have n p by = lifted n (have_state n.state p by)
 
 -- ---- 26 `law NAME ( terms ) [by] ;` owes the conditions, adds the conclusion
 
+-- the conditions owed, the conclusion added
 unfoldable pub law_with : State → List Fact × Fact → List Certificate → Checked (List State)
 law_with s i by = owes_state s by (owing i.0) (add_facts (i.1 ∷ []) s)
 
@@ -107,6 +109,7 @@ unfoldable pub told : ℕ × Sort → List Fact → Option (ℕ × Term)
 told x [] = None
 told x (p ∷ ps) = elim (value_of x p) [ Some t ↦ Some (0, t) | None ↦ option_map (λ y. (suc y.0, y.1)) (told x ps) ]
 
+-- the variable stands in an assertion of the goal
 unfoldable pub goal_mentions : ℕ → Goal → Bool
 goal_mentions x (Loop i q) = mentions x i || mentions x q
 goal_mentions x (Block a) = mentions x a
@@ -117,6 +120,7 @@ unfoldable pub post_mentions : ℕ → Option Post → Bool
 post_mentions x None = false
 post_mentions x (Some p) = mentions x p.meaning
 
+-- condition 8
 unfoldable pub is_in_goal : ℕ → Option Post → List Goal → Bool
 is_in_goal x post goals = list_any (goal_mentions x) goals || post_mentions x post
 
@@ -127,9 +131,11 @@ in_its_place x t y r = cond (is_variable x (Var y r)) t (Var y r)
 unfoldable pub put : ℕ × Sort → Term → Term → Term
 put x t u = normal (replaced (in_its_place x t) Named u)
 
+-- the value of a temporary with t for the variable
 unfoldable pub put_local : ℕ × Sort → Term → Name × Option Term → Name × Option Term
 put_local x t y = (y.0, option_map (put x t) y.1)
 
+-- a state with t for the variable
 unfoldable pub put_state : ℕ × Sort → Term → State → State
 put_state x t s = record s {
   facts = map (map_fact (put x t)) s.facts;
@@ -158,20 +164,24 @@ abbrev pub turned : Bool → Term × Term → Term × Term
 turned true e = (e.1, e.0)
 turned false e = e
 
+-- a term with the right side for the left
 unfoldable pub rewrite_term : Term × Term → Term → Term
 rewrite_term e t = normal (rewritten e.0 e.1 t)
 
+-- at another fact
 unfoldable pub rewrite_fact : State → ℕ → ℕ → Term × Term → Checked (List State)
 rewrite_fact s k j e = do
   p ← required 1 (slice_get s.facts j)
   tested 1 (differ j k)
   Passed (record s { facts = changed j (map_fact (rewrite_term e)) s.facts } ∷ [])
 
+-- at an item
 unfoldable pub rewrite_item : State → ℕ → Term × Term → Checked (List State)
 rewrite_item s j e = do
   i ← required 1 (slice_get s.items j)
   Passed (record s { items = changed j (map_item (rewrite_term e)) s.items } ∷ [])
 
+-- at the value of a temporary
 unfoldable pub rewrite_local : State → Name → Term × Term → Checked (List State)
 rewrite_local s x e = do
   y ← required 4 (local_named x s.locals)
@@ -209,6 +219,7 @@ forget n f = lifted n (forget_state n.state f)
 unfoldable pub named_term : State → Term → Option (Sort × Term)
 named_term s t = option_map (λ r. (r, normal (resolved s t))) (sort_of (resolved s t))
 
+-- the new variable equals the term
 unfoldable pub with_name : State → Name → Sort × Term → State
 with_name s x t = add_facts (Rel rel.Eq (Var (count s) t.0) t.1 ∷ []) (add_variables (x ∷ []) (t.0 ∷ []) s)
 

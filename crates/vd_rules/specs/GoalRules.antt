@@ -34,6 +34,7 @@ abbrev pub as_loop : Stmts → Option (Stmts × Stmts)
 as_loop (c.Then (c.Loop body) rest) = Some (body, rest)
 as_loop xs = None
 
+-- conditions 1 and 4 of both assertions
 unfoldable pub both_read : Scope → State → Assertion → Assertion → Checked (Open × Open)
 both_read scope s i q = do
   invariant ← required 1 (read_assertion scope s i)
@@ -45,6 +46,7 @@ both_read scope s i q = do
 unfoldable pub loop_opens : State → Assertion → Assertion → List Name → List Name → List Name → Bool
 loop_opens s i q names first second = no_names first && (can_open s second i.opened && can_open s names q.opened)
 
+-- what meets I, the body, and the rest
 unfoldable pub loop_children : Node → Stmts → Stmts → Open × Open → List Name → List Name → List Node
 loop_children n body rest o names second =
     towards (Pose o.0) c.End n.state n ∷ towards (Loop o.0 o.1) body (opens n.state o.0 second) n ∷ next rest (opens n.state o.1 names) n ∷ []
@@ -103,6 +105,7 @@ abbrev pub may_return : Post → Option Expr → Bool
 may_return p None = true
 may_return p (Some e) = not p.is_void
 
+-- the terms and the value, and the post with them
 unfoldable pub return_state : State → Post → Option Expr → List Term → List ℕ → List Certificate → Checked (List State)
 return_state s p e ts covers by = do
   tested 1 (may_return p e)
@@ -125,12 +128,14 @@ abbrev pub void_post : Option Post → Option Post
 void_post None = None
 void_post (Some p) = if_void p
 
+-- the end of a function that returns nothing
 unfoldable pub fall_off : Option Post → State → List Term → List Certificate → Checked (List State)
 fall_off post s ts by = do
   p ← required 1 (void_post post)
   us ← required 1 (terms_of s p.meaning.inner.opened ts)
   meets s p.meaning (Undef ∷ us) [] by
 
+-- by the innermost goal
 unfoldable pub fall_state : Option Post → State → List Goal → List Term → List Certificate → Checked (List State)
 fall_state post s [] ts by = fall_off post s ts by
 fall_state post s (Loop i q ∷ gs) ts by = meets_goal s i ts by
@@ -144,6 +149,7 @@ fall post n ts by = do
 
 -- ---- 11 `block N A [as names] block ;` the first N statements end at A; the steps after it open A at the rest
 
+-- the first statements, and the rest
 unfoldable pub block_children : Node → Stmts × Stmts → Open → List Name → List Node
 block_children n parts o names = towards (Block o) parts.0 n.state n ∷ next parts.1 (opens n.state o names) n ∷ []
 
@@ -155,6 +161,7 @@ block scope n k a names first = do
 
 -- ---- 12 `pose A [as names] block ;` the block meets A; the steps after it open A
 
+-- what meets A, and what goes on from it
 unfoldable pub pose_children : Node → Open → List Name → List Node
 pose_children n o names = towards (Pose o) c.End n.state n ∷ at_state (opens n.state o names) n ∷ []
 

@@ -14,11 +14,21 @@ use Rattle.vd_terms.specs.declared.operation.Ternary.TheVariants.{Slice, Upd}
 use Rattle.vd_terms.specs.declared.operation.Unary.TheVariants.{Len, Num, Rev, Sum, Unum, Vi}
 use Rattle.vd_rules.specs.Normal.{normal}
 
+abbrev int : Sort
+int = sort.Int
+
+abbrev val : Sort
+val = sort.Val
+
+abbrev list : Sort
+list = sort.List
+
 -- an argument that has to be a number, and the least that it may be, where there is one
 pub record Numeral : Type 0 where
   pub place : ℕ
   pub least : Option ℤ
 
+-- a law: the sorts of its arguments, which are its variables from 0, and its conditions in the order in which they are owed
 pub record LawRule : Type 0 where
   pub name : Name
   pub sorts : List Sort
@@ -31,13 +41,19 @@ law n sorts cs c = record { name = n; sorts = sorts; numerals = []; conditions =
 
 -- where the argument k is a number of at least 1
 abbrev pub law_of_divisor : Name → List Fact → Fact → LawRule
-law_of_divisor n cs c = record { name = n; sorts = sort.Int ∷ sort.Int ∷ []; numerals = record { place = 1; least = Some (pos 1) } ∷ []; conditions = cs; conclusion = c }
+law_of_divisor n cs c = record {
+  name = n;
+  sorts = int ∷ int ∷ [];
+  numerals = record { place = 1; least = Some (pos 1) } ∷ [];
+  conditions = cs;
+  conclusion = c;
+}
 
 -- where the arguments a and b are numbers
 abbrev pub law_of_bounds : Name → Fact → Fact → LawRule
 law_of_bounds n c d = record {
   name = n;
-  sorts = sort.List ∷ sort.Int ∷ sort.Int ∷ [];
+  sorts = list ∷ int ∷ int ∷ [];
   numerals = record { place = 1; least = None } ∷ record { place = 2; least = None } ∷ [];
   conditions = c ∷ [];
   conclusion = d;
@@ -110,7 +126,7 @@ abbrev whole_part : Term
 whole_part = Of2 Mul i1 (Of2 Quot i0 i1)
 
 abbrev ints : List Sort
-ints = sort.Int ∷ sort.Int ∷ []
+ints = int ∷ int ∷ []
 
 abbrev pub laws_of_integers : List LawRule
 laws_of_integers =
@@ -130,54 +146,57 @@ laws_of_integers =
 
 abbrev pub laws_of_values : List LawRule
 laws_of_values =
-    law (codes "int_vi") (sort.Val ∷ []) (IsInt v0 ∷ []) (eq v0 (Of Vi (Of Num v0)))
-    ∷ law (codes "int_vu") (sort.Val ∷ []) (IsInt v0 ∷ []) (eq v0 (Of Vi (Of Unum v0)))
-    ∷ law (codes "num_lo") (sort.Val ∷ []) [] (le (Number (negsuc 2147483647)) (Of Num v0))
-    ∷ law (codes "num_hi") (sort.Val ∷ []) [] (le (Of Num v0) (num 2147483647))
-    ∷ law (codes "unum_lo") (sort.Val ∷ []) [] (le (num 0) (Of Unum v0))
-    ∷ law (codes "unum_hi") (sort.Val ∷ []) [] (le (Of Unum v0) (num 4294967295))
-    ∷ law (codes "num_vi") (sort.Int ∷ []) (signed_bounds i0) (eq (Of Num (Of Vi i0)) i0)
-    ∷ law (codes "unum_vi") (sort.Int ∷ []) (unsigned_bounds i0) (eq (Of Unum (Of Vi i0)) i0)
+    law (codes "int_vi") (val ∷ []) (IsInt v0 ∷ []) (eq v0 (Of Vi (Of Num v0)))
+    ∷ law (codes "int_vu") (val ∷ []) (IsInt v0 ∷ []) (eq v0 (Of Vi (Of Unum v0)))
+    ∷ law (codes "num_lo") (val ∷ []) [] (le (Number (negsuc 2147483647)) (Of Num v0))
+    ∷ law (codes "num_hi") (val ∷ []) [] (le (Of Num v0) (num 2147483647))
+    ∷ law (codes "unum_lo") (val ∷ []) [] (le (num 0) (Of Unum v0))
+    ∷ law (codes "unum_hi") (val ∷ []) [] (le (Of Unum v0) (num 4294967295))
+    ∷ law (codes "num_vi") (int ∷ []) (signed_bounds i0) (eq (Of Num (Of Vi i0)) i0)
+    ∷ law (codes "unum_vi") (int ∷ []) (unsigned_bounds i0) (eq (Of Unum (Of Vi i0)) i0)
     ∷ law (codes "vi_wrap") ints [] (eq (Of Vi i0) (Of Vi (Of2 Add i0 (Of2 Mul (num 4294967296) i1))))
     ∷ law (codes "vi_inj") ints (eq (Of Vi i0) (Of Vi i1) ∷ (signed_bounds i0 ++ signed_bounds i1)) (eq i0 i1)
     ∷ law (codes "vu_inj") ints (eq (Of Vi i0) (Of Vi i1) ∷ (unsigned_bounds i0 ++ unsigned_bounds i1)) (eq i0 i1)
-    ∷ law (codes "ptr_null") (sort.Val ∷ []) (IsPtr v0 ∷ []) (ne v0 (Of Vi (num 0)))
-    ∷ law (codes "ptr_int") (sort.Val ∷ []) (IsPtr v0 ∷ IsInt v0 ∷ []) (le (num 1) (num 0))
-    ∷ law (codes "off_inj") (sort.Val ∷ sort.Int ∷ sort.Int ∷ []) (IsPtr v0 ∷ eq (Of2 Off v0 i1) (Of2 Off v0 i2) ∷ []) (eq i1 i2)
+    ∷ law (codes "ptr_null") (val ∷ []) (IsPtr v0 ∷ []) (ne v0 (Of Vi (num 0)))
+    ∷ law (codes "ptr_int") (val ∷ []) (IsPtr v0 ∷ IsInt v0 ∷ []) (le (num 1) (num 0))
+    ∷ law (codes "off_inj") (val ∷ int ∷ int ∷ []) (IsPtr v0 ∷ eq (Of2 Off v0 i1) (Of2 Off v0 i2) ∷ []) (eq i1 i2)
     ∷ []
 
 abbrev pub laws_of_lists : List LawRule
 laws_of_lists =
-    law (codes "app_nil") (sort.List ∷ []) [] (eq (Of2 App l0 Nil) l0)
-    ∷ law (codes "app_assoc") (sort.List ∷ sort.List ∷ sort.List ∷ []) [] (eq (Of2 App (Of2 App l0 l1) l2) (Of2 App l0 (Of2 App l1 l2)))
-    ∷ law (codes "rev_cons") (sort.Val ∷ sort.List ∷ []) [] (eq (Of Rev (Of2 Cons v0 l1)) (Of2 App (Of Rev l1) (Of2 Cons v0 Nil)))
-    ∷ law (codes "rev_app") (sort.List ∷ sort.List ∷ []) [] (eq (Of Rev (Of2 App l0 l1)) (Of2 App (Of Rev l1) (Of Rev l0)))
-    ∷ law (codes "rev_rev") (sort.List ∷ []) [] (eq (Of Rev (Of Rev l0)) l0)
-    ∷ law (codes "len_pos") (sort.List ∷ []) [] (le (num 0) (Of Len l0))
-    ∷ law (codes "len_rev") (sort.List ∷ []) [] (eq (Of Len (Of Rev l0)) (Of Len l0))
-    ∷ law (codes "len_zero") (sort.List ∷ []) (eq (Of Len l0) (num 0) ∷ []) (eq l0 Nil)
-    ∷ law (codes "len_upd") (sort.List ∷ sort.Int ∷ sort.Val ∷ []) [] (eq (Of Len (Of3 Upd l0 i1 v2)) (Of Len l0))
-    ∷ law (codes "len_rep") (sort.Val ∷ sort.Int ∷ []) (le (num 0) i1 ∷ []) (eq (Of Len (Of2 Rep v0 i1)) i1)
-    ∷ law (codes "cons_head") (sort.Val ∷ sort.List ∷ sort.Val ∷ sort.List ∷ []) (eq (Of2 Cons v0 l1) (Of2 Cons v2 l3) ∷ []) (eq v0 v2)
-    ∷ law (codes "cons_tail") (sort.Val ∷ sort.List ∷ sort.Val ∷ sort.List ∷ []) (eq (Of2 Cons v0 l1) (Of2 Cons v2 l3) ∷ []) (eq l1 l3)
-    ∷ law (codes "list_cons") (sort.List ∷ []) (le (num 1) (Of Len l0) ∷ []) (eq l0 (Of2 Cons (Of2 Nth l0 (num 0)) (Of3 Slice l0 (num 1) (Of Len l0))))
-    ∷ law (codes "upd_same") (sort.List ∷ sort.Int ∷ sort.Val ∷ []) (is_place i1 l0) (eq (Of2 Nth (Of3 Upd l0 i1 v2) i1) v2)
-    ∷ law (codes "upd_other") (sort.List ∷ sort.Int ∷ sort.Int ∷ sort.Val ∷ []) (ne i1 i2 ∷ []) (eq (Of2 Nth (Of3 Upd l0 i1 v3) i2) (Of2 Nth l0 i2))
-    ∷ law (codes "nth_rep") (sort.Val ∷ sort.Int ∷ sort.Int ∷ []) (le (num 0) i2 ∷ lt i2 i1 ∷ []) (eq (Of2 Nth (Of2 Rep v0 i1) i2) v0)
-    ∷ law (codes "sub_all") (sort.List ∷ []) [] (eq (Of3 Slice l0 (num 0) (Of Len l0)) l0)
-    ∷ law (codes "sub_one") (sort.List ∷ sort.Int ∷ []) (is_place i1 l0) (eq (Of3 Slice l0 i1 (Of2 Add i1 (num 1))) (Of2 Cons (Of2 Nth l0 i1) Nil))
-    ∷ law (codes "sub_len") (sort.List ∷ sort.Int ∷ sort.Int ∷ []) (le (num 0) i1 ∷ le i1 i2 ∷ le i2 (Of Len l0) ∷ []) (eq (Of Len (Of3 Slice l0 i1 i2)) (Of2 Sub i2 i1))
-    ∷ law (codes "sub_split") (sort.List ∷ sort.Int ∷ sort.Int ∷ sort.Int ∷ []) (le (num 0) i1 ∷ le i1 i2 ∷ le i2 i3 ∷ le i3 (Of Len l0) ∷ []) (eq (Of3 Slice l0 i1 i3) (Of2 App (Of3 Slice l0 i1 i2) (Of3 Slice l0 i2 i3)))
+    law (codes "app_nil") (list ∷ []) [] (eq (Of2 App l0 Nil) l0)
+    ∷ law (codes "app_assoc") (list ∷ list ∷ list ∷ []) [] (eq (Of2 App (Of2 App l0 l1) l2) (Of2 App l0 (Of2 App l1 l2)))
+    ∷ law (codes "rev_cons") (val ∷ list ∷ []) [] (eq (Of Rev (Of2 Cons v0 l1)) (Of2 App (Of Rev l1) (Of2 Cons v0 Nil)))
+    ∷ law (codes "rev_app") (list ∷ list ∷ []) [] (eq (Of Rev (Of2 App l0 l1)) (Of2 App (Of Rev l1) (Of Rev l0)))
+    ∷ law (codes "rev_rev") (list ∷ []) [] (eq (Of Rev (Of Rev l0)) l0)
+    ∷ law (codes "len_pos") (list ∷ []) [] (le (num 0) (Of Len l0))
+    ∷ law (codes "len_rev") (list ∷ []) [] (eq (Of Len (Of Rev l0)) (Of Len l0))
+    ∷ law (codes "len_zero") (list ∷ []) (eq (Of Len l0) (num 0) ∷ []) (eq l0 Nil)
+    ∷ law (codes "len_upd") (list ∷ int ∷ val ∷ []) [] (eq (Of Len (Of3 Upd l0 i1 v2)) (Of Len l0))
+    ∷ law (codes "len_rep") (val ∷ int ∷ []) (le (num 0) i1 ∷ []) (eq (Of Len (Of2 Rep v0 i1)) i1)
+    ∷ law (codes "cons_head") (val ∷ list ∷ val ∷ list ∷ []) (eq (Of2 Cons v0 l1) (Of2 Cons v2 l3) ∷ []) (eq v0 v2)
+    ∷ law (codes "cons_tail") (val ∷ list ∷ val ∷ list ∷ []) (eq (Of2 Cons v0 l1) (Of2 Cons v2 l3) ∷ []) (eq l1 l3)
+    ∷ law (codes "list_cons") (list ∷ []) (le (num 1) (Of Len l0) ∷ [])
+    (eq l0 (Of2 Cons (Of2 Nth l0 (num 0)) (Of3 Slice l0 (num 1) (Of Len l0))))
+    ∷ law (codes "upd_same") (list ∷ int ∷ val ∷ []) (is_place i1 l0) (eq (Of2 Nth (Of3 Upd l0 i1 v2) i1) v2)
+    ∷ law (codes "upd_other") (list ∷ int ∷ int ∷ val ∷ []) (ne i1 i2 ∷ []) (eq (Of2 Nth (Of3 Upd l0 i1 v3) i2) (Of2 Nth l0 i2))
+    ∷ law (codes "nth_rep") (val ∷ int ∷ int ∷ []) (le (num 0) i2 ∷ lt i2 i1 ∷ []) (eq (Of2 Nth (Of2 Rep v0 i1) i2) v0)
+    ∷ law (codes "sub_all") (list ∷ []) [] (eq (Of3 Slice l0 (num 0) (Of Len l0)) l0)
+    ∷ law (codes "sub_one") (list ∷ int ∷ []) (is_place i1 l0) (eq (Of3 Slice l0 i1 (Of2 Add i1 (num 1))) (Of2 Cons (Of2 Nth l0 i1) Nil))
+    ∷ law (codes "sub_len") (list ∷ int ∷ int ∷ []) (le (num 0) i1 ∷ le i1 i2 ∷ le i2 (Of Len l0) ∷ [])
+    (eq (Of Len (Of3 Slice l0 i1 i2)) (Of2 Sub i2 i1))
+    ∷ law (codes "sub_split") (list ∷ int ∷ int ∷ int ∷ []) (le (num 0) i1 ∷ le i1 i2 ∷ le i2 i3 ∷ le i3 (Of Len l0) ∷ [])
+    (eq (Of3 Slice l0 i1 i3) (Of2 App (Of3 Slice l0 i1 i2) (Of3 Slice l0 i2 i3)))
     ∷ []
 
 abbrev pub laws_of_elements : List LawRule
 laws_of_elements =
-    law (codes "sum_cons") (sort.Val ∷ sort.List ∷ []) [] (eq (Of Sum (Of2 Cons v0 l1)) (Of2 Add (Of Num v0) (Of Sum l1)))
-    ∷ law (codes "sum_app") (sort.List ∷ sort.List ∷ []) [] (eq (Of Sum (Of2 App l0 l1)) (Of2 Add (Of Sum l0) (Of Sum l1)))
-    ∷ law (codes "each_int") (sort.List ∷ sort.Int ∷ sort.Int ∷ sort.Int ∷ []) (Each l0 i1 i2 ∷ is_place i3 l0) (IsInt (Of2 Nth l0 i3))
-    ∷ law (codes "each_lo") (sort.List ∷ sort.Int ∷ sort.Int ∷ sort.Int ∷ []) (Each l0 i1 i2 ∷ is_place i3 l0) (le i1 (Of Num (Of2 Nth l0 i3)))
-    ∷ law (codes "each_hi") (sort.List ∷ sort.Int ∷ sort.Int ∷ sort.Int ∷ []) (Each l0 i1 i2 ∷ is_place i3 l0) (le (Of Num (Of2 Nth l0 i3)) i2)
-    ∷ law (codes "each_sub") (sort.List ∷ sort.Int ∷ sort.Int ∷ sort.Int ∷ sort.Int ∷ []) (Each l0 i1 i2 ∷ []) (Each (Of3 Slice l0 i3 i4) i1 i2)
+    law (codes "sum_cons") (val ∷ list ∷ []) [] (eq (Of Sum (Of2 Cons v0 l1)) (Of2 Add (Of Num v0) (Of Sum l1)))
+    ∷ law (codes "sum_app") (list ∷ list ∷ []) [] (eq (Of Sum (Of2 App l0 l1)) (Of2 Add (Of Sum l0) (Of Sum l1)))
+    ∷ law (codes "each_int") (list ∷ int ∷ int ∷ int ∷ []) (Each l0 i1 i2 ∷ is_place i3 l0) (IsInt (Of2 Nth l0 i3))
+    ∷ law (codes "each_lo") (list ∷ int ∷ int ∷ int ∷ []) (Each l0 i1 i2 ∷ is_place i3 l0) (le i1 (Of Num (Of2 Nth l0 i3)))
+    ∷ law (codes "each_hi") (list ∷ int ∷ int ∷ int ∷ []) (Each l0 i1 i2 ∷ is_place i3 l0) (le (Of Num (Of2 Nth l0 i3)) i2)
+    ∷ law (codes "each_sub") (list ∷ int ∷ int ∷ int ∷ int ∷ []) (Each l0 i1 i2 ∷ []) (Each (Of3 Slice l0 i3 i4) i1 i2)
     ∷ law_of_bounds (codes "sum_lo") (Each l0 i1 i2) (le (Of2 Mul i1 (Of Len l0)) (Of Sum l0))
     ∷ law_of_bounds (codes "sum_hi") (Each l0 i1 i2) (le (Of Sum l0) (Of2 Mul i2 (Of Len l0)))
     ∷ []
@@ -186,6 +205,7 @@ laws_of_elements =
 abbrev pub laws : List LawRule
 laws = laws_of_integers ++ (laws_of_values ++ (laws_of_lists ++ laws_of_elements))
 
+-- the first of a name
 unfoldable pub law_named : Name → Option LawRule
 law_named name = find (λ r. bytes_eq r.name name) laws
 
@@ -195,6 +215,7 @@ is_numeral None (Number n) = true
 is_numeral (Some least) (Number n) = int_le least n
 is_numeral least t = false
 
+-- the arguments that have to be numbers are
 unfoldable pub are_numerals : LawRule → List Term → Bool
 are_numerals r args = list_all (λ n. is_numeral n.least (slice_index_or args n.place Undef)) r.numerals
 

@@ -38,12 +38,15 @@ as_lock o xs = None
 
 -- ---- 16 `makelock N I(terms) [at] [by] ;` data N at the address; owes 64 <= s, len(l) = 1; gives lock(64, p, I), holds(p, I)
 
+-- all of its share, and one cell
 unfoldable pub makelock_owes : Term × Term × Term → List Owed → List Owed
 makelock_owes d owed = owed ++ (whole_share d.0 ∷ equal (Of Len d.2) (Number (pos 1)) ∷ [])
 
+-- the lock, held
 unfoldable pub new_lock : Term → Label → List Item
 new_lock p l = Lock (Number (pos 64)) p l ∷ Holds p l ∷ []
 
+-- the data is at the address, and the invariant is in scope
 unfoldable pub lock_made : Scope → State → ℕ → Term × Term × Term → Label → Valued Term → List Certificate → Checked (List State)
 lock_made scope s k d l v by = do
   tested 1 (same v.value d.1)
@@ -65,9 +68,11 @@ makelock scope n k label covers by = do
 
 -- ---- 17 `acquire N [at] ;` lock N at the address; adds holds(p, I), I
 
+-- the hold and the invariant
 unfoldable pub acquired_items : Term × Term × Label → List Item
 acquired_items l = Holds l.1 l.2 ∷ Pred l.2 ∷ []
 
+-- the lock is at the address
 unfoldable pub acquired : State → Term × Term × Label → Valued Term → Checked (List State)
 acquired s l v = do
   tested 1 (same v.value l.1)
@@ -94,6 +99,7 @@ released_at s k m = do
   tested 1 (same_label i h.1)
   Passed h.0
 
+-- the hold is at the address
 unfoldable pub released : State → ℕ → ℕ → Term → Valued Term → Checked (List State)
 released s k m p v = do
   tested 1 (same v.value p)
@@ -113,6 +119,7 @@ release n k m covers = do
 
 -- ---- 19 `freelock N M [at] [by] ;` lock N, owing 64 <= s, and holds M go; gives data(64, p, [undef])
 
+-- a cell of data that has no value
 unfoldable pub freed_cell : Term → List Item
 freed_cell p = Data (Number (pos 64)) p (Of2 Cons Undef Nil) ∷ []
 

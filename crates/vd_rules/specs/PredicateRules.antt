@@ -46,15 +46,18 @@ case_of scope s p k args ts = do
   tested 1 (have_sorts a.opened (map (resolved s) ts))
   Passed a
 
+-- the predicate
 unfoldable pub folded_item : Name → List Term → List Item
 folded_item p args = Pred (record { name = p; args = args }) ∷ []
 
+-- PROP owed, the items of the case taken, the predicate given
 unfoldable pub folded : State → Name → List Term → Assertion → List Certificate → Checked (List State)
 folded s p args a by = do
   tested 3 (are_proved s.facts by (owing a.facts))
   left ← required 5 (taken a.items s.items)
   Passed (add_items (folded_item p args) (with_items left s) ∷ [])
 
+-- the arguments, the terms, the case
 unfoldable pub fold_state : Scope → State → Name → ℕ → List Term → List Term → List Certificate → Checked (List State)
 fold_state scope s p k args ts by = do
   as_ ← required 1 (sorted_terms s args)
@@ -71,11 +74,13 @@ fold scope n p k args ts by = lifted n (fold_state scope n.state p k args ts by)
 unfoldable pub case_state : State → Label → Assertion → List Name → State
 case_state s l a names = with_post (with_terms a (l.args ++ fresh s a.opened)) (add_variables names a.opened s)
 
+-- the states of the cases in order
 unfoldable pub case_states : State → Label → List Assertion → List (List Name) → List State
 case_states s l [] bs = []
 case_states s l (a ∷ cs) [] = []
 case_states s l (a ∷ cs) (b ∷ bs) = case_state s l a b ∷ case_states s l cs bs
 
+-- condition 6 of each block
 unfoldable pub cases_open : State → List Assertion → List (List Name) → Bool
 cases_open s [] bs = true
 cases_open s (a ∷ cs) [] = true

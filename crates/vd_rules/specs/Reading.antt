@@ -15,7 +15,7 @@ use Rattle.vd_rules.specs.Assertions.{have_sorts, is_sorted, is_sorted_assertion
 use Rattle.vd_rules.specs.Normal.{normal}
 use Rattle.vd_rules.specs.Opening.{Open}
 
--- what no text has, and what has no sort
+-- what no text has, and what has no sort: where no variable is opened under the name of no bytes, which no text does
 abbrev pub unknown : Term
 unknown = Named []
 

@@ -38,6 +38,7 @@ abbrev pub as_set : Stmts → Option (ℕ × Expr × Stmts)
 as_set (c.Then (c.Set x e) rest) = Some (x, e, rest)
 as_set xs = None
 
+-- the value
 unfoldable pub set_state : State → ℕ → Expr → List ℕ → List Certificate → Checked (List State)
 set_state s x e covers by = do
   v ← finished (value s e covers)
@@ -60,6 +61,7 @@ loaded s x d a by = do
   i ← required 1 (distance d.1 a.value)
   owes_state s by (a.owed ++ within i d.2) (set_local x (Some (normal (Of2 Nth d.2 i))) s)
 
+-- the item and the address
 unfoldable pub load_state : State → ℕ → Root → Path → ℕ → List ℕ → List Certificate → Checked (List State)
 load_state s x r p k covers by = do
   d ← required 1 (data_at s k)
@@ -92,6 +94,7 @@ stored s k d a e by = do
   v ← finished (value s e a.covers)
   owes_state s by (store_owes d a i v) (stored_in s k d i v.value)
 
+-- the item and the address
 unfoldable pub store_state : State → Root → Path → Expr → ℕ → List ℕ → List Certificate → Checked (List State)
 store_state s r p e k covers by = do
   d ← required 1 (data_at s k)
