@@ -1,11 +1,12 @@
 pub mod Evaluating
 pub mod Forms
+pub mod Headers
 pub mod Orders
 pub mod OutcomeLaws
+pub mod Projects
 pub mod Promising
 pub mod Returns
 pub mod Safety
 pub mod Scripts
 pub mod Values
 pub mod VerdictLaws
-pub mod Wholeness

@@ -2,7 +2,7 @@
 use Rattle.std.proofs.Common.{◌≡◌, ◌⊎◌, inl, inr, ⊎_elim, ◌≤◌, ◌<◌, List, [], ◌∷◌, length, get_or, Option, None, Some, Result, Ok, Err, IfOk, sym, subst, arith}
 use Rattle.vd_outline.specs.declared.outline.TextKind.TheVariants.{Unit as UnitText, Link as LinkText}
 use Rattle.vd_outline.specs.Laws.{OneOutline}
-use Rattle.vd_form.specs.Sections.{Finds}
+use Rattle.vd_linkage.specs.Only.{IsOnly}
 use Rattle.vd_check.specs.declared.form.Pair.{Pair}
 use Rattle.vd_check.specs.Form.{Entry, ArePair, AreTexts}
 
@@ -29,19 +29,19 @@ module _ (texts : List Entry) (e f : Entry) (same : texts ≡ e ∷ f ∷ []) wh
       h.both
 
   module _ (one : OneOutline) where
-    pub first_order : (p : Pair) → Finds (ArePair e f) (Some p) → Finds (AreTexts texts) (Some p)
+    pub first_order : (p : Pair) → IsOnly (ArePair e f) (Some p) → IsOnly (AreTexts texts) (Some p)
     first_order p h = (
       record { unit = e; link = f; pair = h.0; both = inl same },
       λ q g. ⊎_elim (h.1 q) (λ back. absurd (wrong_way one e f p q h.0 back)) (in_order q g),
     )
 
-    second_order : Finds (ArePair e f) None → (found : Option Pair) → Finds (ArePair f e) found → Finds (AreTexts texts) found
+    second_order : IsOnly (ArePair e f) None → (found : Option Pair) → IsOnly (ArePair f e) found → IsOnly (AreTexts texts) found
     second_order none None h = λ q g. ⊎_elim (none q) (h q) (in_order q g)
     second_order none (Some p) h = (
       record { unit = f; link = e; pair = h.0; both = inr same },
       λ q g. ⊎_elim (λ front. absurd (none q front)) (h.1 q) (in_order q g),
     )
 
-    pub either_order : {E : Type 0} (r : Result (Option Pair) E) → Finds (ArePair e f) None → IfOk r (Finds (ArePair f e)) → IfOk r (Finds (AreTexts texts))
+    pub either_order : {E : Type 0} (r : Result (Option Pair) E) → IsOnly (ArePair e f) None → IfOk r (IsOnly (ArePair f e)) → IfOk r (IsOnly (AreTexts texts))
     either_order (Ok found) none h = second_order none found h
     either_order (Err x) none h = tt

@@ -27,7 +27,8 @@ use Rattle.vd_machine.specs.Safe.{IsFine}
 use Rattle.vd_check.specs.Value.{Value, Locals, value, is_proved}
 use Rattle.vd_check.specs.Script.{Node, Applied, Children, Refused, apply, set_to, set_first, set_rule, return_with, return_first, return_rule, meets, is_evident, are_equal, side_layer, side, IsGood, ends, goes, entry}
 use Rattle.vd_check.specs.Meaning.{meaning_layer, meaning, IsTrue, AreTrue, Satisfies}
-use Rattle.vd_check.specs.Safety.{program_of, IsSafeFor}
+use Rattle.vd_check.specs.Form.{program_of}
+use Rattle.vd_check.specs.Safety.{IsSafeFor}
 use Rattle.vd_check.proofs.Evaluating.{Matches, matches_set, evaluates}
 
 -- ---- what a step that is not refused tells

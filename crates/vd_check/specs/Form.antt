@@ -1,5 +1,9 @@
--- The form of the texts that are checked today: a unit of one function `main` over integers, and a link that lists it alone.
+-- The form of the texts that are checked today: a unit of one function `main` over integers, and a link that lists it alone and has a
+-- program.
 use Rattle.std.specs.Prelude.{◌≡◌, ◌≢◌, ◌⊎◌, ℕ, List, [], ◌∷◌, codes, Option, None, Some, option_map, length}
+use Rattle.vd_clight.specs.declared.program.Program.{Program}
+use Rattle.vd_clight.specs.declared.typed.TypedFn.{TypedFn}
+use Rattle.vd_heads.specs.HeadPart.{head_part, header_lines}
 use Rattle.vd_outline.specs.declared.outline.Outline.{Outline}
 use Rattle.vd_outline.specs.declared.outline.TextKind.TheVariants.{Unit as UnitText, Link as LinkText}
 use Rattle.vd_outline.specs.declared.section.Section.{Section}
@@ -7,14 +11,16 @@ use Rattle.vd_outline.specs.declared.section.SectionKind.{SectionKind}
 use Rattle.vd_outline.specs.declared.section.SectionKind.TheVariants as section
 use Rattle.vd_outline.specs.Lookup.{section_called}
 use Rattle.vd_outline.specs.Outline.{Outlines}
-use Rattle.vd_form.specs.Sections.{IsTyped, IsSpecification, IsScript, IsNames}
+use Rattle.vd_form.specs.Sections.{IsFunction, IsSpecification, IsScript}
+pub use Rattle.vd_linkage.specs.Form.{Entry}
+use Rattle.vd_linkage.specs.Form.{ArePlain}
+use Rattle.vd_linkage.specs.Only.{IsOnly}
+use Rattle.vd_linkage.specs.Program.{IsProgram}
+use Rattle.vd_linkage.specs.Reading.{IsListOf}
 use Rattle.vd_check.specs.declared.form.LinkParts.{LinkParts}
 use Rattle.vd_check.specs.declared.form.Pair.{Pair}
 use Rattle.vd_check.specs.declared.form.UnitParts.{UnitParts}
-
--- a text with its name and its version
-abbrev pub Entry : Type 0
-Entry = List ℕ × ℕ × List ℕ
+use Rattle.vd_check.specs.declared.project.Project.{Project}
 
 -- ---- sections
 
@@ -33,20 +39,25 @@ pub record Under (kind : SectionKind) (name : Option (List ℕ)) (sections : Lis
 
 -- ---- units and links
 
+-- the inputs of the header of a text that uses and exports nothing: its head part, and the header lines of its other sections
+abbrev pub header_inputs : Outline → List (List ℕ)
+header_inputs o = head_part o ∷ header_lines o ∷ []
+
 -- a unit of the form: a specification of main, its function and its script, and no other section
 pub record HasParts (o : Outline) (u : UnitParts) : Type 0 where
   pub kind : o.kind ≡ UnitText
   pub named : o.name ≡ u.name
   pub three : length o.sections ≡ 3
   pub spec : Under section.Spec main o.sections (λ text. IsSpecification text u.spec)
-  pub typed : Under section.Fn main o.sections (λ text. IsTyped text u.typed)
+  pub function : Under section.Fn main o.sections IsFunction
   pub script : Under section.Script main o.sections (λ text. IsScript text u.steps)
+  pub header : u.header ≡ header_inputs o
 
 -- a link that lists these units
 pub record Lists (o : Outline) (l : LinkParts) : Type 0 where
   pub kind : o.kind ≡ LinkText
   pub named : o.name ≡ l.name
-  pub units : Under section.Units None o.sections (λ text. IsNames text l.units)
+  pub units : Under section.Units None o.sections (λ text. IsListOf text l.units)
 
 -- the text's outline is that of such a unit
 abbrev pub IsUnit : List ℕ → UnitParts → Type 0
@@ -82,6 +93,22 @@ pub record AreTexts (texts : List Entry) (p : Pair) : Type 0 where
   pub pair : ArePair unit link p
   pub both : (texts ≡ unit ∷ link ∷ []) ⊎ (texts ≡ link ∷ unit ∷ [])
 
+-- ---- the program
+
+-- the program of one function, its main
+abbrev pub program_of : TypedFn → Program
+program_of f = record { fns = f ∷ []; globals = []; main = 0 }
+
+-- The link's program, the one that is played, is this function alone.
+pub record HasMain (texts : List Entry) (link : List ℕ) (f : TypedFn) : Type 0 where
+  pub plain : ArePlain texts
+  pub program : IsOnly (IsProgram texts link) (Some (program_of f))
+
+-- the texts are a unit and its link, whose program is main
+pub record AreProject (texts : List Entry) (p : Project) : Type 0 where
+  pub pair : AreTexts texts p.pair
+  pub main : HasMain texts p.pair.link p.main
+
 -- the texts have the form
 abbrev pub HasForm : List Entry → Type 0
-HasForm texts = (p : Pair) × AreTexts texts p
+HasForm texts = (p : Project) × AreProject texts p

@@ -3,7 +3,7 @@ use Rattle.std.specs.Prelude.{◌≡◌, ℕ, List}
 use Rattle.vd_clight.specs.declared.typed.TypedFn.{TypedFn}
 use Rattle.vd_logic.specs.declared.assertion.Assertion.{Assertion}
 use Rattle.vd_logic.specs.declared.step.Step.{Step}
-use Rattle.vd_check.specs.declared.form.Pair.{Pair}
+use Rattle.vd_check.specs.declared.project.Project.{Project}
 use Rattle.vd_store.specs.declared.report.Outcome.{Outcome}
 use Rattle.vd_store.specs.declared.work.Verdict.{Verdict}
 use Rattle.vd_check.specs.Script.{HasVerdict}
@@ -15,4 +15,4 @@ OneVerdict = (post : Assertion) (f : TypedFn) (steps : List Step) (v other : Ver
 
 -- a unit and a link give one outcome at most
 abbrev pub OneOutcome : Type 0
-OneOutcome = (asked : List ℕ) (p : Pair) (o other : Outcome) → Gives asked p o → Gives asked p other → o ≡ other
+OneOutcome = (asked : List ℕ) (p : Project) (o other : Outcome) → Gives asked p o → Gives asked p other → o ≡ other

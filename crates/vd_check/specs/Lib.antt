@@ -1,6 +1,8 @@
 pub mod Effect
+pub mod Entries
 pub mod Evaluated
 pub mod Form
+pub mod Header
 pub mod Laws
 pub mod Meaning
 pub mod Report

@@ -3,22 +3,25 @@
 ghost use Rattle.std.specs.Prelude.{◌≡◌, List as Lists_of, ℕ, ◌∷◌, [], None, option_copied, IfOk, IsTrue, ◌↔◌};
 ghost use Rattle.vd_outline.specs.declared.section.SectionKind.TheVariants as kind;
 ghost use Rattle.vd_outline.specs.Outline.{Outlines};
-ghost use Rattle.vd_form.specs.Sections.{Finds, IsTyped, IsSpecification, IsScript, IsNames};
-ghost use Rattle.vd_check.specs.Form.{main, text_of, Under, HasParts, Lists, IsUnit, IsLink, AreNamed, ArePair};
+ghost use Rattle.vd_form.specs.Sections.{IsFunction, IsSpecification, IsScript};
+ghost use Rattle.vd_linkage.specs.Only.{IsOnly};
+ghost use Rattle.vd_linkage.specs.Reading.{IsListOf};
+ghost use Rattle.vd_check.specs.Form.{main, text_of, Under, header_inputs, HasParts, Lists, IsUnit, IsLink, AreNamed, ArePair};
 
 use std::alloc::{AllocError, Global};
 use vd_base::{Held, List, Name, Text};
-use vd_clight::TypedFn;
-use vd_form::{read_names, read_script, read_specification, read_typed};
+use vd_form::{is_function, read_names, read_script, read_specification};
+use vd_heads::{head_part, header_lines};
 use vd_logic::{Spec, Step};
 use vd_outline::{Outline, OutlineFault, Section, SectionKind, TextKind, find, outline_of};
 
-/// What a unit of the form holds. Its drop is written by hand, so that each exit that lets go of it is one call.
+/// What a unit of the form holds, with the inputs of its header. Its drop is written by hand, so that each exit that lets go of it is
+/// one call.
 pub struct UnitParts {
     pub name: Name,
     pub spec: Held<Spec>,
-    pub typed: Held<TypedFn>,
     pub steps: List<Step>,
+    pub header: List<Text>,
 }
 
 impl Drop for UnitParts {
@@ -26,8 +29,8 @@ impl Drop for UnitParts {
         let UnitParts {
             name: _,
             spec: _,
-            typed: _,
             steps: _,
+            header: _,
         } = self;
     }
 }
@@ -61,7 +64,7 @@ impl Drop for Pair {
 // ---- sections
 
 fn outlined(alloc: Global, text: &Text) -> Result<Option<Outline>, AllocError>
-    ensures { IfOk result (Finds (Outlines text.now)) }
+    ensures { IfOk result (IsOnly (Outlines text.now)) }
 {
     match outline_of(alloc, text) {
         Ok(outline) => Ok(Some(outline)),
@@ -88,7 +91,7 @@ fn text_of_main<'a>(sections: &'a [Section], kind: SectionKind) -> Option<&'a Te
 }
 
 fn specification_of(alloc: Global, sections: &[Section]) -> Result<Option<Held<Spec>>, AllocError>
-    ensures { IfOk result (Finds (λ s. Under kind.Spec main sections.now (λ text. IsSpecification text s))) }
+    ensures { IfOk result (IsOnly (λ s. Under kind.Spec main sections.now (λ text. IsSpecification text s))) }
 {
     match text_of_main(sections, SectionKind::Spec) {
         Some(text) => read_specification(alloc, text),
@@ -97,7 +100,7 @@ fn specification_of(alloc: Global, sections: &[Section]) -> Result<Option<Held<S
 }
 
 fn script_of(alloc: Global, sections: &[Section]) -> Result<Option<List<Step>>, AllocError>
-    ensures { IfOk result (Finds (λ steps. Under kind.Script main sections.now (λ text. IsScript text steps))) }
+    ensures { IfOk result (IsOnly (λ steps. Under kind.Script main sections.now (λ text. IsScript text steps))) }
 {
     match text_of_main(sections, SectionKind::Script) {
         Some(text) => read_script(alloc, text),
@@ -106,7 +109,7 @@ fn script_of(alloc: Global, sections: &[Section]) -> Result<Option<List<Step>>, 
 }
 
 fn units_of(alloc: Global, sections: &[Section]) -> Result<Option<List<Name>>, AllocError>
-    ensures { IfOk result (Finds (λ units. Under kind.Units None sections.now (λ text. IsNames text units))) }
+    ensures { IfOk result (IsOnly (λ units. Under kind.Units None sections.now (λ text. IsListOf text units))) }
 {
     match text_of(sections, SectionKind::Units, None) {
         Some(text) => read_names(alloc, text),
@@ -114,19 +117,30 @@ fn units_of(alloc: Global, sections: &[Section]) -> Result<Option<List<Name>>, A
     }
 }
 
-fn typed_of(alloc: Global, sections: &[Section]) -> Result<Option<Held<TypedFn>>, AllocError>
-    ensures { IfOk result (Finds (λ t. Under kind.Fn main sections.now (λ text. IsTyped text t))) }
+/// Whether the function main is there and has the form.
+fn has_function(alloc: Global, sections: &[Section]) -> Result<bool, AllocError>
+    ensures { IfOk result (λ has. IsTrue has ↔ Under kind.Fn main sections.now IsFunction) }
 {
     match text_of_main(sections, SectionKind::Fn) {
-        Some(text) => read_typed(alloc, text),
-        None => Ok(None),
+        Some(text) => is_function(alloc, text),
+        None => Ok(false),
     }
 }
 
 // ---- units and links
 
+/// The head part of a text, and the header lines of its other sections.
+fn header_inputs(alloc: Global, outline: &Outline) -> Result<List<Text>, AllocError>
+    ensures { IfOk result (λ inputs. inputs ≡ header_inputs outline.now) }
+{
+    let mut inputs = List::new(alloc);
+    inputs.push(head_part(alloc, outline)?)?;
+    inputs.push(header_lines(alloc, outline)?)?;
+    Ok(inputs)
+}
+
 fn parts_of(alloc: Global, outline: &Outline) -> Result<Option<UnitParts>, AllocError>
-    ensures { IfOk result (Finds (HasParts outline.now)) }
+    ensures { IfOk result (IsOnly (HasParts outline.now)) }
 {
     if outline.kind != TextKind::Unit {
         return Ok(None);
@@ -135,26 +149,28 @@ fn parts_of(alloc: Global, outline: &Outline) -> Result<Option<UnitParts>, Alloc
         return Ok(None);
     }
     let sections = outline.sections.as_slice();
-    let Some(spec) = specification_of(alloc, sections)? else {
+    let has = has_function(alloc, sections)?;
+    if !has {
         return Ok(None);
-    };
-    let Some(typed) = typed_of(alloc, sections)? else {
+    }
+    let Some(spec) = specification_of(alloc, sections)? else {
         return Ok(None);
     };
     let Some(steps) = script_of(alloc, sections)? else {
         return Ok(None);
     };
+    let header = header_inputs(alloc, outline)?;
     let name = outline.name.copy(alloc)?;
     Ok(Some(UnitParts {
         name,
         spec,
-        typed,
         steps,
+        header,
     }))
 }
 
 fn listing_of(alloc: Global, outline: &Outline) -> Result<Option<LinkParts>, AllocError>
-    ensures { IfOk result (Finds (Lists outline.now)) }
+    ensures { IfOk result (IsOnly (Lists outline.now)) }
 {
     if outline.kind != TextKind::Link {
         return Ok(None);
@@ -167,7 +183,7 @@ fn listing_of(alloc: Global, outline: &Outline) -> Result<Option<LinkParts>, All
 }
 
 fn read_unit(alloc: Global, text: &Text) -> Result<Option<UnitParts>, AllocError>
-    ensures { IfOk result (Finds (IsUnit text.now)) }
+    ensures { IfOk result (IsOnly (IsUnit text.now)) }
 {
     match outlined(alloc, text)? {
         Some(outline) => parts_of(alloc, &outline),
@@ -176,7 +192,7 @@ fn read_unit(alloc: Global, text: &Text) -> Result<Option<UnitParts>, AllocError
 }
 
 fn read_link(alloc: Global, text: &Text) -> Result<Option<LinkParts>, AllocError>
-    ensures { IfOk result (Finds (IsLink text.now)) }
+    ensures { IfOk result (IsOnly (IsLink text.now)) }
 {
     match outlined(alloc, text)? {
         Some(outline) => listing_of(alloc, &outline),
@@ -211,7 +227,7 @@ pub(crate) fn read_pair(
     unit: &(Name, u32, Text),
     link: &(Name, u32, Text),
 ) -> Result<Option<Pair>, AllocError>
-    ensures { IfOk result (Finds (ArePair unit.now link.now)) }
+    ensures { IfOk result (IsOnly (ArePair unit.now link.now)) }
 {
     let Some(listing) = read_link(alloc, &link.2)? else {
         return Ok(None);

@@ -3,6 +3,7 @@
 
 mod form;
 mod laws;
+mod project;
 mod report;
 mod rule;
 mod script;
@@ -11,5 +12,6 @@ mod whole;
 
 pub use form::{LinkParts, Pair, UnitParts};
 pub use laws::{check_laws, safety_laws};
+pub use project::Project;
 pub use report::{Failure, Finding};
 pub use whole::{scratch, try_scratch};

@@ -1,17 +1,18 @@
 //! The check of a whole snapshot.
 
 ghost use Rattle.std.specs.Prelude.{◌≡◌, codes, IfOk, MatchOption};
-ghost use Rattle.vd_form.specs.Sections.{Finds};
-ghost use Rattle.vd_check.specs.Form.{HasForm, AreTexts};
+ghost use Rattle.vd_check.specs.Form.{HasForm};
+ghost use Rattle.vd_check.specs.Header.{HasHeaderVerdict};
 ghost use Rattle.vd_check.specs.Safety.{Promises};
 ghost use Rattle.vd_check.specs.Scratch.{Scratches, Gives, findings_of, failure_of, linkset_of};
 
-use crate::form::{Pair, read_pair};
+use crate::form::Pair;
+use crate::project::{Project, project_of};
 use crate::report::{Failure, Finding, are_accepted, report_of};
 use crate::script::judge;
 use std::alloc::{AllocError, Global};
-use vd_base::{List, Name, NameFault, hold};
-use vd_outline::outline_laws;
+use vd_base::{List, Name, NameFault, Text, hold};
+use vd_scopes::{HeadFault, scopes};
 use vd_store::{Linkset, Outcome, Snapshot, Verdict, WorkKind, WorkName};
 
 fn main_name(alloc: Global) -> Result<Name, AllocError>
@@ -24,9 +25,14 @@ fn main_name(alloc: Global) -> Result<Name, AllocError>
     }
 }
 
-/// The works of a unit of the form, the body with this verdict.
-fn findings_of(alloc: Global, unit: &Name, body: Verdict) -> Result<List<Finding>, AllocError>
-    ensures { IfOk result (λ findings. findings ≡ findings_of unit.now body) }
+/// The works of a unit of the form, the header and the body with these verdicts.
+fn findings_of(
+    alloc: Global,
+    unit: &Name,
+    header: Verdict,
+    body: Verdict,
+) -> Result<List<Finding>, AllocError>
+    ensures { IfOk result (λ findings. findings ≡ findings_of unit.now header body) }
 {
     let main = main_name(alloc)?;
     let owner = unit.copy(alloc)?;
@@ -38,7 +44,7 @@ fn findings_of(alloc: Global, unit: &Name, body: Verdict) -> Result<List<Finding
             owner: header_owner,
             function: None,
         },
-        verdict: Verdict::Accepted,
+        verdict: header,
     })?;
     findings.push(Finding {
         work: WorkName {
@@ -49,6 +55,18 @@ fn findings_of(alloc: Global, unit: &Name, body: Verdict) -> Result<List<Finding
         verdict: body,
     })?;
     Ok(findings)
+}
+
+/// The verdict on a header: the first condition of head parts that fails, by rule 0.
+#[tactic(auto, using(crate::proofs::Headers::accepted, crate::proofs::Headers::refused))]
+fn header_verdict(alloc: Global, inputs: &List<Text>) -> Result<Verdict, AllocError>
+    ensures { IfOk result (HasHeaderVerdict inputs.now) }
+{
+    match scopes(alloc, inputs) {
+        Ok(_) => Ok(Verdict::Accepted),
+        Err(HeadFault::Refused(place, condition)) => Ok(Verdict::Refused(place, 0, condition)),
+        Err(HeadFault::Memory(fault)) => Err(fault),
+    }
 }
 
 /// The link condition that fails.
@@ -74,20 +92,22 @@ fn linkset_of(alloc: Global, pair: &Pair) -> Result<Linkset, AllocError>
     Ok(Linkset { parts })
 }
 
-fn check_pair(alloc: Global, pair: &Pair, asked: &Name) -> Result<Outcome, AllocError>
-    ensures { IfOk result (Gives asked.now pair.now) }
+fn check_project(alloc: Global, project: &Project, asked: &Name) -> Result<Outcome, AllocError>
+    ensures { IfOk result (Gives asked.now project.now) }
 {
+    let pair = &project.pair;
     if !asked.is_same(&pair.link) {
         return Ok(Outcome::NoLink);
     }
     let unit = &pair.unit;
+    let header = header_verdict(alloc, &unit.header)?;
     let body = judge(
         alloc,
         &unit.spec.get().post,
-        unit.typed.get(),
+        project.main.get(),
         unit.steps.as_slice(),
     )?;
-    let findings = findings_of(alloc, &unit.name, body)?;
+    let findings = findings_of(alloc, &unit.name, header, body)?;
     let findings = findings.as_slice();
     let failure = hold(failure_of(alloc, findings));
     let report = hold(report_of(alloc, findings, &pair.link, failure.get())?);
@@ -99,20 +119,6 @@ fn check_pair(alloc: Global, pair: &Pair, asked: &Name) -> Result<Outcome, Alloc
     }
 }
 
-/// The unit and the link of the form, which may stand in either order.
-fn pair_of(alloc: Global, texts: &Snapshot) -> Result<Option<Pair>, AllocError>
-    ensures { IfOk result (Finds (AreTexts texts.now.texts)) }
-{
-    outline_laws();
-    let [first, second] = texts.texts.as_slice() else {
-        return Ok(None);
-    };
-    match read_pair(alloc, first, second)? {
-        Some(pair) => Ok(Some(pair)),
-        None => read_pair(alloc, second, first),
-    }
-}
-
 /// Checks the link over all texts at once, where they have the form that is checked today.
 pub fn try_scratch(
     alloc: Global,
@@ -121,9 +127,9 @@ pub fn try_scratch(
 ) -> Result<Option<Outcome>, AllocError>
     ensures { IfOk result (λ found. MatchOption found (HasForm texts.now.texts → ⊥) (λ o. HasForm texts.now.texts × Scratches texts.now.texts link.now o × Promises texts.now.texts o)) }
 {
-    match pair_of(alloc, texts)? {
-        Some(pair) => {
-            let outcome = check_pair(alloc, &pair, link)?;
+    match project_of(alloc, texts)? {
+        Some(project) => {
+            let outcome = check_project(alloc, &project, link)?;
             Ok(Some(outcome))
         }
         None => Ok(None),

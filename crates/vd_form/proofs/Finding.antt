@@ -1,7 +1,6 @@
 -- What is found is the only one.
-use Rattle.std.proofs.Common.{◌≡◌, ◌≢◌, ◌∙◌, ap, sym, refl, subst, ℕ, List, map, Option, None, Some, Result, Ok, Err, IfOk}
+use Rattle.std.proofs.Common.{◌≡◌, ◌≢◌, ◌∙◌, ◌↔◌, ap, sym, refl, subst, ℕ, Bool, false, List, map, Option, None, Some, Result, Ok, Err, IfOk, IsTrue}
 use Rattle.vd_clight.specs.declared.syntax.FnText.{FnText}
-use Rattle.vd_clight.specs.declared.typed.TypedFn.{TypedFn}
 use Rattle.vd_cparse.specs.Section.{AnswersFn}
 use Rattle.vd_grammar.specs.declared.fault.ParseFault.{ParseFault}
 use Rattle.vd_grammar.specs.declared.fault.ParseFault.TheVariants as fault
@@ -10,7 +9,10 @@ use Rattle.vd_listing.specs.Listing.{IsListing, IsCut}
 use Rattle.vd_listing.specs.OneListing.{one_listing}
 use Rattle.vd_sparse.specs.declared.text.LogicText.{LogicText}
 use Rattle.vd_sparse.specs.Sections.{AnswersLogic}
-use Rattle.vd_form.specs.Sections.{Finds, IsTyped, IsTypedAs, Says, IsNames}
+use Rattle.vd_form.specs.Plain.{is_plain_function}
+use Rattle.vd_form.specs.Sections.{IsFunction, Says}
+use Rattle.vd_linkage.specs.Only.{IsOnly}
+use Rattle.vd_linkage.specs.Reading.{IsListOf}
 
 -- ---- functions
 
@@ -38,16 +40,15 @@ module _ (text : List ℕ) where
   read_as : (f g : FnText) → Exact (AnswersFn text) (Ok f) → AnswersFn text (Ok g) → f ≡ g
   read_as f g exact is = ok_is f g (exact (Ok g) is (not_memory f) (not_memory g))
 
-  function_found : (f : FnText) (r : Option TypedFn) → AnswersFn text (Ok f) → Exact (AnswersFn text) (Ok f) → Finds (IsTypedAs f) r → Finds (IsTyped text) r
-  function_found f None is exact none = λ t h. none t (subst (λ (g : FnText). IsTypedAs g t) (sym (read_as f h.0 exact h.1)) h.2)
-  function_found f (Some t) is exact one = ((f, is, one.0), λ u h. one.1 u (subst (λ (g : FnText). IsTypedAs g u) (sym (read_as f h.0 exact h.1)) h.2))
+  -- the function that is read decides
+  pub function_is : (f : FnText) (plain : Bool) → AnswersFn text (Ok f) → Exact (AnswersFn text) (Ok f) → plain ≡ is_plain_function f → IsTrue plain ↔ IsFunction text
+  function_is f plain is exact same = (
+    λ true. (f, is, sym same ∙ true),
+    λ h. same ∙ (ap is_plain_function (read_as f h.0 exact h.1) ∙ h.2),
+  )
 
-  pub function_read : {E : Type 0} (f : FnText) (r : Result (Option TypedFn) E) → AnswersFn text (Ok f) → Exact (AnswersFn text) (Ok f) → IfOk r (Finds (IsTypedAs f)) → IfOk r (Finds (IsTyped text))
-  function_read f (Ok r) is exact h = function_found f r is exact h
-  function_read f (Err e) is exact h = tt
-
-  pub no_function : (why : ParseFault) → why ≢ fault.Memory → Exact (AnswersFn text) (Err why) → Finds (IsTyped text) None
-  no_function why certain exact = λ t h. not_found h.0 why (exact (Ok h.0) h.1 (λ e. certain (cc)) (not_memory h.0))
+  pub no_function : (why : ParseFault) → why ≢ fault.Memory → Exact (AnswersFn text) (Err why) → IsTrue false ↔ IsFunction text
+  no_function why certain exact = (λ e. absurd (cc), λ h. absurd (not_found h.0 why (exact (Ok h.0) h.1 (λ e. certain (cc)) (not_memory h.0))))
 
   -- ---- the logic
 
@@ -60,14 +61,14 @@ module _ (text : List ℕ) where
   none_is : {A : Type 0} (a : A) → ◌≡◌ {A = Option A} None (Some a) → ⊥
   none_is a h = absurd (cc)
 
-  found_in : {A : Type 0} (look : LogicText → Option A) (x : LogicText) (o : Option A) → o ≡ look x → AnswersLogic text (Ok x) → Exact (AnswersLogic text) (Ok x) → Finds (Says look text) o
+  found_in : {A : Type 0} (look : LogicText → Option A) (x : LogicText) (o : Option A) → o ≡ look x → AnswersLogic text (Ok x) → Exact (AnswersLogic text) (Ok x) → IsOnly (Says look text) o
   found_in look x None e is exact = λ a h. none_is a (e ∙ (ap look (logic_as x h.0 exact h.1) ∙ h.2))
   found_in look x (Some a) e is exact = ((x, is, sym e), λ b h. some_is b a (sym (e ∙ (ap look (logic_as x h.0 exact h.1) ∙ h.2))))
 
-  pub said : {A : Type 0} (look : LogicText → Option A) (x : LogicText) (o : Option A) → o ≡ look x → AnswersLogic text (Ok x) → Exact (AnswersLogic text) (Ok x) → Finds (Says look text) o
+  pub said : {A : Type 0} (look : LogicText → Option A) (x : LogicText) (o : Option A) → o ≡ look x → AnswersLogic text (Ok x) → Exact (AnswersLogic text) (Ok x) → IsOnly (Says look text) o
   said look x o e is exact = found_in look x o e is exact
 
-  pub unsaid : {A : Type 0} (look : LogicText → Option A) (why : ParseFault) → why ≢ fault.Memory → Exact (AnswersLogic text) (Err why) → Finds (Says look text) None
+  pub unsaid : {A : Type 0} (look : LogicText → Option A) (why : ParseFault) → why ≢ fault.Memory → Exact (AnswersLogic text) (Err why) → IsOnly (Says look text) None
   unsaid look why certain exact = λ a h. not_found h.0 why (exact (Ok h.0) h.1 (λ e. certain (cc)) (not_memory h.0))
 
   -- ---- names
@@ -78,12 +79,15 @@ module _ (text : List ℕ) where
   none_listed : (xs : List Mention) (place : ℕ) → ◌≡◌ {A = Result (List Mention) ℕ} (Ok xs) (Err place) → ⊥
   none_listed xs place h = absurd (cc)
 
-  names_found : (xs : List Mention) (names : List (List ℕ)) → IsListing text (Ok xs) → names ≡ map (λ m. m.name) xs → Finds (IsNames text) (Some names)
-  names_found xs names is e = ((xs, is, e), λ others h. h.2 ∙ (ap (map (λ (m : Mention). m.name)) (listed_is h.0 xs (one_listing text (Ok h.0) (Ok xs) h.1 is)) ∙ sym e))
+  names_found : (xs : List Mention) (names : List (List ℕ)) → IsListing text (Ok xs) → names ≡ map (λ m. m.name) xs → IsOnly (IsListOf text) (Some names)
+  names_found xs names is e = (
+    record { mentions = xs; listed = is; are = e },
+    λ others h. h.are ∙ (ap (map (λ (m : Mention). m.name)) (listed_is h.mentions xs (one_listing text (Ok h.mentions) (Ok xs) h.listed is)) ∙ sym e),
+  )
 
-  pub names_read : {E : Type 0} (xs : List Mention) (r : Result (Option (List (List ℕ))) E) → IsListing text (Ok xs) → IfOk r (λ names. names ≡ Some (map (λ m. m.name) xs)) → IfOk r (Finds (IsNames text))
-  names_read xs (Ok r) is h = subst (Finds (IsNames text)) (sym h) (names_found xs (map (λ m. m.name) xs) is refl)
+  pub names_read : {E : Type 0} (xs : List Mention) (r : Result (Option (List (List ℕ))) E) → IsListing text (Ok xs) → IfOk r (λ names. names ≡ Some (map (λ m. m.name) xs)) → IfOk r (IsOnly (IsListOf text))
+  names_read xs (Ok r) is h = subst (IsOnly (IsListOf text)) (sym h) (names_found xs (map (λ m. m.name) xs) is refl)
   names_read xs (Err e) is h = tt
 
-  pub no_names : (place : ℕ) → ((header content : List ℕ) → IsCut text header content → IsListing text (Err place)) → Finds (IsNames text) None
-  no_names place faulty = λ names h. none_listed h.0 place (one_listing text (Ok h.0) (Err place) h.1 (faulty h.1.header h.1.content h.1.is_cut))
+  pub no_names : (place : ℕ) → ((header content : List ℕ) → IsCut text header content → IsListing text (Err place)) → IsOnly (IsListOf text) None
+  no_names place faulty = λ names h. none_listed h.mentions place (one_listing text (Ok h.mentions) (Err place) h.listed (faulty h.listed.header h.listed.content h.listed.is_cut))

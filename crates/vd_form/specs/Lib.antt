@@ -1,3 +1,2 @@
 pub mod Plain
-pub mod Simple
 pub mod Sections

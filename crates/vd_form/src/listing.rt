@@ -1,7 +1,8 @@
 //! The names of a link's units.
 
 ghost use Rattle.std.specs.Prelude.{◌≡◌, map, IfOk};
-ghost use Rattle.vd_form.specs.Sections.{Finds, IsNames};
+ghost use Rattle.vd_linkage.specs.Only.{IsOnly};
+ghost use Rattle.vd_linkage.specs.Reading.{IsListOf};
 
 use std::alloc::{AllocError, Global};
 use vd_base::{List, Name, Text};
@@ -28,7 +29,7 @@ fn found(alloc: Global, mentions: &List<Mention>) -> Result<Option<List<Name>>, 
 
 /// The names of a `units` section, in their order.
 pub fn read_names(alloc: Global, section: &Text) -> Result<Option<List<Name>>, AllocError>
-    ensures { IfOk result (Finds (IsNames section.now)) }
+    ensures { IfOk result (IsOnly (IsListOf section.now)) }
 {
     match names_in(alloc, section) {
         Ok(mentions) => found(alloc, &mentions),

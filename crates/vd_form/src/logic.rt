@@ -1,7 +1,8 @@
 //! Specifications and scripts of the form.
 
 ghost use Rattle.std.specs.Prelude.{◌≡◌, IfOk};
-ghost use Rattle.vd_form.specs.Sections.{Finds, IsScript, IsSpecification, spec_in, steps_in};
+ghost use Rattle.vd_form.specs.Sections.{IsScript, IsSpecification, spec_in, steps_in};
+ghost use Rattle.vd_linkage.specs.Only.{IsOnly};
 
 use crate::plain::{are_plain_steps, is_plain_spec};
 use std::alloc::{AllocError, Global};
@@ -43,7 +44,7 @@ fn steps_in(said: LogicText) -> Option<List<Step>>
 
 /// The specification of a `spec` section, where the section has the form.
 pub fn read_specification(alloc: Global, section: &Text) -> Result<Option<Held<Spec>>, AllocError>
-    ensures { IfOk result (Finds (IsSpecification section.now)) }
+    ensures { IfOk result (IsOnly (IsSpecification section.now)) }
 {
     match parse_logic(alloc, section) {
         Ok(said) => Ok(spec_in(said)),
@@ -55,7 +56,7 @@ pub fn read_specification(alloc: Global, section: &Text) -> Result<Option<Held<S
 
 /// The steps of a `script` section, where the section has the form.
 pub fn read_script(alloc: Global, section: &Text) -> Result<Option<List<Step>>, AllocError>
-    ensures { IfOk result (Finds (IsScript section.now)) }
+    ensures { IfOk result (IsOnly (IsScript section.now)) }
 {
     match parse_logic(alloc, section) {
         Ok(said) => Ok(steps_in(said)),

@@ -111,3 +111,24 @@ fn bodies_have_their_verdicts(rt: HostRuntime) -> Result<(), AllocError> {
     }
     Ok(())
 }
+
+/// Statements of main with which the link has no program: a name that is unknown, and one that is declared twice.
+const WITHOUT_PROGRAM: &[&[u8]] = &[
+    b"int t ; t = u ; return t ;",
+    b"int t ; int t ; t = 1 ; return t ;",
+];
+
+/// Whether the texts have the form that is checked.
+fn has_form(alloc: Global, texts: &Text) -> Result<bool, AllocError> {
+    let snapshot = snapshot_of(alloc, texts.as_bytes())?;
+    Ok(try_scratch(alloc, &snapshot, &name(alloc, b"l")?)?.is_some())
+}
+
+#[test]
+fn texts_without_a_program_are_outside(rt: HostRuntime) -> Result<(), AllocError> {
+    for (number, statements) in WITHOUT_PROGRAM.iter().enumerate() {
+        let texts = texts_with(rt.alloc(), statements, SET_RETURN, b"1")?;
+        assert!(rt; !has_form(rt.alloc(), &texts)?, "body {number}");
+    }
+    Ok(())
+}

@@ -1,6 +1,6 @@
 use Rattle.std.proofs.Common.{sym, ◌∙◌}
 use Rattle.vd_check.proofs.Orders.{two_entries, first_order, either_order}
-use Rattle.vd_check.proofs.whole.pair_of.Goals as goal
+use Rattle.vd_check.proofs.project.pair_of.Goals as goal
 
 pub returns-in-Some : goal.returns-in-Some
 returns-in-Some c = first_order c.args.texts.now.texts c.first-item.result c.second-item.result
