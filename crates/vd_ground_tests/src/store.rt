@@ -1,9 +1,9 @@
 //! Texts by example.
 
 use crate::support::{name, one};
-use std::alloc::AllocError;
+use std::alloc::{AllocError, Global};
 use vd_base::{Name, Text};
-use vd_store::{Store, Verdict, Work, WorkKind, WorkName};
+use vd_store::{Linkset, Report, Store, Verdict, Work, WorkKind, WorkName};
 
 /// Whether the store has this version and text under a name.
 fn has(store: &Store, name: &Name, version: u32, text: &[u8]) -> bool {
@@ -46,5 +46,33 @@ fn works_are_copied(rt: HostRuntime) -> Result<(), AllocError> {
     assert!(rt; copy.name.kind == WorkKind::Body && copy.name.owner.is_same(&work.name.owner));
     assert!(rt; copy.inputs.len() == 1);
     assert!(rt; Verdict::Accepted.is_accepted() && !Verdict::Refused(1, 3, 4).is_accepted());
+    Ok(())
+}
+
+fn is_report_copied(alloc: Global) -> Result<bool, AllocError> {
+    let report = Report {
+        lines: one(alloc, Text::new(alloc, b"link l ok")?)?,
+    };
+    let copy = report.copy(alloc)?;
+    let line = copy.line(0);
+    Ok(copy.lines.len() == 1 && line.is_some_and(|line| line.as_bytes() == b"link l ok".as_slice()))
+}
+
+fn is_linkset_copied(alloc: Global) -> Result<bool, AllocError> {
+    let linkset = Linkset {
+        parts: one(alloc, (name(alloc, b"u")?, 7))?,
+    };
+    let copy = linkset.copy(alloc)?;
+    let part = copy.parts.get(0);
+    Ok(
+        copy.parts.len() == 1
+            && part.is_some_and(|part| part.0.as_bytes() == b"u".as_slice() && part.1 == 7),
+    )
+}
+
+#[test]
+fn reports_and_linksets_are_copied(rt: HostRuntime) -> Result<(), AllocError> {
+    assert!(rt; is_report_copied(rt.alloc())?);
+    assert!(rt; is_linkset_copied(rt.alloc())?);
     Ok(())
 }

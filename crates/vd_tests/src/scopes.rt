@@ -3,7 +3,8 @@
 use crate::scopes_logic::{BODIES, SECOND_DECLARATIONS, SORTS, UNKNOWN_NAMES};
 use crate::support::texts_of;
 use std::alloc::{AllocError, Global};
-use std::test::Fail;
+use vd_base::{List, Text};
+use vd_clight::CScope;
 use vd_scopes::{HeadFault, scopes};
 
 /// What is shown, texts with a byte 0 between each two, and the place and the condition that fails of them; 0 and 0 where
@@ -337,18 +338,30 @@ fn head_parts_have_their_first_fault(rt: HostRuntime) -> Result<(), AllocError> 
 const SEEN: &[u8] =
     b"unit u\nuses\nI\nend\nglobal g\nstruct s g ;\nend\nglobal h\nint h [ 3 ] ;\nend\n\x00interface I\nstruct s\nstruct s { struct t a [ 2 ] ; struct s * b ; } ;\nend\nstruct t\nstruct t { int a ; int b ; } ;\nend\n\x00interface J\nstruct v\nstruct v { int a ; } ;\nend\n";
 
+/// Whether the scope has two globals, `g` of five cells and then one of three, and no functions.
+fn sees_globals(scope: &CScope) -> bool {
+    match scope.globals.as_slice() {
+        [(first, one), (_, other)] => {
+            first.as_bytes() == b"g".as_slice()
+                && scope.structs.size(one) == Some(5)
+                && scope.structs.size(other) == Some(3)
+                && scope.fns.len() == 0
+        }
+        _ => false,
+    }
+}
+
+fn are_seen(alloc: Global, parts: &List<Text>) -> bool {
+    match scopes(alloc, parts) {
+        Ok(found) => sees_globals(&found.c),
+        Err(_) => false,
+    }
+}
+
 /// What the sections of a unit see.
 #[test]
-fn scopes_hold_declarations(rt: HostRuntime) -> Result<(), Fail> {
+fn scopes_hold_declarations(rt: HostRuntime) -> Result<(), AllocError> {
     let parts = texts_of(rt.alloc(), SEEN)?;
-    let Ok(found) = scopes(rt.alloc(), &parts) else {
-        return Err(Fail::from(AllocError));
-    };
-    let globals = found.c.globals.as_slice();
-    assert_eq!(rt; globals.len(), 2);
-    assert!(rt; globals[0].0.as_bytes() == b"g".as_slice());
-    assert_eq!(rt; found.c.structs.size(&globals[0].1), Some(5));
-    assert_eq!(rt; found.c.structs.size(&globals[1].1), Some(3));
-    assert_eq!(rt; found.c.fns.len(), 0);
+    assert!(rt; are_seen(rt.alloc(), &parts));
     Ok(())
 }

@@ -3,7 +3,7 @@
 use crate::support::repeated;
 use std::alloc::{AllocError, Global};
 use vd_base::Text;
-use vd_logic::{Op, Prop, Sort, Spec, StepNode, Term};
+use vd_logic::{Op, Prop, Sort, Spec, Step, StepNode, Term};
 use vd_sparse::{LogicText, ParseFault, parse_logic};
 
 /// Each logic section of the worked examples.
@@ -170,20 +170,28 @@ fn is_first_local(spec: &Spec, named: &[u8]) -> bool {
     }
 }
 
+/// Whether the facts of the specification are about the variables of these numbers, and its first local about `c`.
+fn are_numbered(spec: &Spec) -> bool {
+    equates(spec.pre.props.as_slice(), 2, 1)
+        && equates(spec.post.props.as_slice(), 4, 3)
+        && (spec.with.len(), spec.post.opened.len()) == (3, 2)
+        && is_first_local(spec, b"c")
+}
+
+/// Whether a section is such a specification.
+fn has_numbers(alloc: Global, text: &Text) -> bool {
+    match &parse_logic(alloc, text) {
+        Ok(LogicText::Spec(spec, _)) => are_numbered(spec),
+        _ => false,
+    }
+}
+
 /// The variables of a specification, then the result's, then those that the postcondition opens. The last declaration of
 /// a name counts.
 #[test]
 fn variables_have_numbers(rt: HostRuntime) -> Result<(), AllocError> {
     let text = Text::new(rt.alloc(), SPECIFICATION)?;
-    match &parse_logic(rt.alloc(), &text) {
-        Ok(LogicText::Spec(spec, _)) => {
-            assert!(rt; equates(spec.pre.props.as_slice(), 2, 1));
-            assert!(rt; equates(spec.post.props.as_slice(), 4, 3));
-            assert_eq!(rt; (spec.with.len(), spec.post.opened.len()), (3, 2));
-            assert!(rt; is_first_local(spec, b"c"));
-        }
-        _ => assert!(rt; false),
-    }
+    assert!(rt; has_numbers(rt.alloc(), &text));
     Ok(())
 }
 
@@ -236,14 +244,23 @@ fn hides(section: &LogicText) -> Option<bool> {
     }
 }
 
+/// Whether a declaration hides an earlier one, where a section of such a kind is read.
+fn hides_in(alloc: Global, text: &Text) -> Option<bool> {
+    match &parse_logic(alloc, text) {
+        Ok(section) => hides(section),
+        Err(_) => None,
+    }
+}
+
 #[test]
 fn declarations_hide_one_another(rt: HostRuntime) -> Result<(), AllocError> {
     for (number, (bytes, want)) in HIDING.iter().enumerate() {
         let text = Text::new(rt.alloc(), bytes)?;
-        match &parse_logic(rt.alloc(), &text) {
-            Ok(section) => assert_eq!(rt; hides(section), Some(*want), "section {number}"),
-            Err(_) => assert!(rt; false, "section {number}"),
-        }
+        assert_eq!(rt;
+            hides_in(rt.alloc(), &text),
+            Some(*want),
+            "section {number}"
+        );
     }
     Ok(())
 }
@@ -279,19 +296,29 @@ fn are_grouped(first: &StepNode, third: &StepNode) -> bool {
     }
 }
 
+/// Whether three steps have these numbers and terms.
+fn are_steps(steps: &[Step]) -> bool {
+    match steps {
+        [first, second, third] => {
+            (first.number, second.number, third.number) == (1, 2, 6)
+                && are_grouped(&first.node, &third.node)
+        }
+        _ => false,
+    }
+}
+
+/// Whether a section is a subsumption of such steps.
+fn has_steps(alloc: Global, text: &Text) -> bool {
+    match &parse_logic(alloc, text) {
+        Ok(LogicText::Sub(_, steps)) => are_steps(steps.as_slice()),
+        _ => false,
+    }
+}
+
 /// Operators group to the left, and steps are numbered in reading order.
 #[test]
 fn operators_group_and_steps_have_numbers(rt: HostRuntime) -> Result<(), AllocError> {
     let text = Text::new(rt.alloc(), SUBSUMPTION)?;
-    match &parse_logic(rt.alloc(), &text) {
-        Ok(LogicText::Sub(_, steps)) => match steps.as_slice() {
-            [first, second, third] => {
-                assert_eq!(rt; (first.number, second.number, third.number), (1, 2, 6));
-                assert!(rt; are_grouped(&first.node, &third.node));
-            }
-            _ => assert!(rt; false),
-        },
-        _ => assert!(rt; false),
-    }
+    assert!(rt; has_steps(rt.alloc(), &text));
     Ok(())
 }

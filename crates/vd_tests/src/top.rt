@@ -1,7 +1,7 @@
 // Calls over a shelf and sinks in memory.
 use std::alloc::{AllocError, Global};
 use std::test::Fail;
-use vd_base::{List, MemShelf, MemSink, Text};
+use vd_base::{List, MemShelf, MemSink, Text, hold};
 use vd_top::desk_top;
 
 const UNIT: &str =
@@ -62,28 +62,56 @@ fn long(alloc: Global, length: usize) -> Result<Text, AllocError> {
     Ok(Text::from_vec(bytes))
 }
 
-// Runs the words, which are set apart by single spaces, over u.txt, which holds the unit, l.txt, an interface i.txt, the
-// schedules s.txt, one.txt, which has one turn, bad.txt, whose second line is malformed, and many.txt, which has a turn too
-// many, full.txt, which has as many bytes as a file may have, and long.txt, which has one more.
-fn run(alloc: Global, words: &str, unit: &str, failing: Failing) -> Result<Ran, AllocError> {
+// The words, which are set apart by single spaces.
+fn words_of(alloc: Global, words: &str) -> Result<Vec<String>, AllocError> {
     let mut all = Vec::new(alloc);
     for word in words.split(' ') {
         all.push(String::from_str(alloc, word)?)?;
     }
+    Ok(all)
+}
+
+// A link, schedules (s.txt, one.txt, which has one turn, bad.txt, whose second line is malformed, and many.txt, which has a
+// turn too many), and an interface.
+const FILES: &[(&str, &str)] = &[
+    ("l.txt", LINK),
+    ("s.txt", "0 1 9\n"),
+    ("one.txt", "0 1 1\n"),
+    ("bad.txt", "0 1 9\n0 2 1\n"),
+    ("many.txt", "0 1 1000001\n"),
+    ("i.txt", "interface i\n"),
+];
+
+// Files by their lengths: as many bytes as a file may have, and one more.
+const LONG_FILES: &[(&str, usize)] = &[("full.txt", 1048576), ("long.txt", 1048577)];
+
+fn file(alloc: Global, name: &str, content: Text) -> Result<(Text, Text), AllocError> {
+    let content = hold(content);
+    let name = text(alloc, name)?;
+    Ok((name, content.out()))
+}
+
+// u.txt, which holds the unit, and the files that stand in tables.
+fn files_with(alloc: Global, unit: &str) -> Result<List<(Text, Text)>, AllocError> {
     let mut files = List::new(alloc);
-    files.push((text(alloc, "u.txt")?, text(alloc, unit)?))?;
-    files.push((text(alloc, "l.txt")?, text(alloc, LINK)?))?;
-    files.push((text(alloc, "s.txt")?, text(alloc, "0 1 9\n")?))?;
-    files.push((text(alloc, "one.txt")?, text(alloc, "0 1 1\n")?))?;
-    files.push((text(alloc, "bad.txt")?, text(alloc, "0 1 9\n0 2 1\n")?))?;
-    files.push((text(alloc, "many.txt")?, text(alloc, "0 1 1000001\n")?))?;
-    files.push((text(alloc, "i.txt")?, text(alloc, "interface i\n")?))?;
-    files.push((text(alloc, "full.txt")?, long(alloc, 1048576)?))?;
-    files.push((text(alloc, "long.txt")?, long(alloc, 1048577)?))?;
+    files.push(file(alloc, "u.txt", text(alloc, unit)?)?)?;
+    for (name, content) in FILES {
+        files.push(file(alloc, name, text(alloc, content)?)?)?;
+    }
+    for (name, length) in LONG_FILES {
+        files.push(file(alloc, name, long(alloc, *length)?)?)?;
+    }
+    Ok(files)
+}
+
+// Runs the words over the files.
+fn run(alloc: Global, words: &str, unit: &str, failing: Failing) -> Result<Ran, AllocError> {
+    let words = words_of(alloc, words)?;
+    let files = files_with(alloc, unit)?;
     let mut shelf = MemShelf::new(files, one(alloc, failing.read)?);
     let mut out = MemSink::new(alloc, one(alloc, failing.write)?);
     let mut err = MemSink::new(alloc, one(alloc, failing.error)?);
-    let status = desk_top(alloc, all.as_slice(), &mut shelf, &mut out, &mut err);
+    let status = desk_top(alloc, words.as_slice(), &mut shelf, &mut out, &mut err);
     Ok(Ran { status, out, err })
 }
 
