@@ -10,6 +10,7 @@ mod smallest;
 mod table;
 mod view;
 
+pub use closure::closures_of;
 pub use content::{Content, HeadSection, Mention, Part};
 pub use holding::held;
 pub use parts::{head_line, head_part, header_lines, is_head, section_word};
