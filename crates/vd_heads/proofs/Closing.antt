@@ -1,12 +1,13 @@
 -- How the closure of a part is found.
-use Rattle.std.proofs.Common.{◌≡◌, ◌↔◌, ℕ, zero, suc, ◌+◌, ◌<◌, ◌≤◌, Bool, true, false, ◌||◌, List, [], ◌∷◌, length, get_or, take, Option, None, Some, ◌⊎◌, inl, inr, refl, ap, sym, ◌∙◌, subst, arith}
+use Rattle.std.proofs.Common.{◌≡◌, ◌↔◌, ℕ, zero, suc, ◌+◌, ◌<◌, ◌≤◌, Bool, true, false, ◌||◌, List, [], ◌∷◌, ◌++◌, Bor, append-nil, length, get_or, take, Option, None, Some, ◌⊎◌, inl, inr, refl, ap, sym, ◌∙◌, subst, arith}
 use Rattle.std.specs.List.{slice_get}
 use Rattle.std.specs.Option.{option_and_then}
 use Rattle.std.specs.Str.{bytes_eq}
 use Rattle.std.proofs.lemmas.Bool.{cases_eq, false≢true}
-use Rattle.std.proofs.lemmas.List.Folds.{list_any_more}
+use Rattle.std.proofs.lemmas.List.Folds.{list_any-append, list_any_more}
+use Rattle.std.proofs.lemmas.List.Concat.{flat_map-append}
+use Rattle.std.proofs.lemmas.List.{map-append, take_more}
 use Rattle.std.proofs.lemmas.List.Quantifiers.{position-Some}
-use Rattle.std.proofs.lemmas.List.Sums.{count_by-le-length}
 use Rattle.std.proofs.lemmas.Option.{slice_get_within, slice_get_read}
 use Rattle.std.proofs.lemmas.Slice.Eq.{bytes_eq-Decides}
 use Rattle.vd_heads.specs.declared.content.Content.{Content}
@@ -16,9 +17,12 @@ use Rattle.vd_heads.specs.declared.content.Part.{Part}
 use Rattle.vd_heads.specs.declared.part_set.PartSet.{PartSet}
 use Rattle.vd_heads.specs.declared.table.Table.{Table}
 use Rattle.vd_outline.specs.declared.outline.TextKind.TheVariants as text
-use Rattle.vd_heads.specs.Closure.{lists, mentioned, exported, Mentions, Reaches, itself, further, Exports, heads_interface, interface_at}
+use Rattle.vd_closure.specs.declared.closures.Closures.{Closures}
+use Rattle.vd_closure.specs.Numbered.{AreClosures, names_in}
+use Rattle.vd_closure.specs.Reach.{Uses, has}
+use Rattle.vd_heads.specs.Closure.{lists, exported, reached, uses, uses_of, Reaches, Exports, heads_interface, interface_at}
 use Rattle.vd_heads.specs.Declaration.{Bytes}
-use Rattle.vd_heads.specs.PartSet.{Adds, IsPartSet, IsMentioned, IsMentionedBelow}
+use Rattle.vd_heads.specs.PartSet.{Adds, IsPartSet, IsMentioned, IsMentionedBelow, IsNamed}
 use Rattle.vd_heads.specs.Views.{IsTable, interface_in, is_marked}
 use Rattle.vd_heads.proofs.Sets.{adds_none, adds_both, adds_as, marked_within}
 
@@ -78,35 +82,6 @@ below_more t taken hs i h ms s u v within at taken_is before now =
         | inr other ↦ inl (j, x, omega arith, stands, m)
       ]
 
--- ---- parts
-
-pub mentions_of : (parts : List Part) (t : Table) (number : ℕ) (part : Part) → IsTable parts t → slice_get parts number ≡ Some part → (hs : List HeadSection) → hs ≡ part.sections → (s u : PartSet)
-    → Adds (IsMentionedBelow t mentioned hs (length hs)) s u → Adds (Mentions parts number) s u
-mentions_of parts t number part is stands hs own s u adds =
-    let P : List HeadSection → Type 0 = λ xs. Adds (IsMentionedBelow t mentioned xs (length xs)) s u in
-    adds_as (IsMentionedBelow t mentioned part.sections (length part.sections)) (Mentions parts number) s u
-    (λ k m. record { number = m.0; section = m.1; name = m.4.0; stands = ap (option_and_then (λ p. slice_get p.sections m.0)) stands ∙ m.3; mentioned = m.4.1; is = sym (is.interfaces m.4.0) ∙ m.4.2 })
-    (λ k m. let at : slice_get part.sections m.number ≡ Some m.section = ap (option_and_then (λ p. slice_get p.sections m.number)) (sym stands) ∙ m.stands in
-    (m.number, m.section, slice_get_within part.sections m.number m.section at, at, (m.name, m.mentioned, is.interfaces m.name ∙ m.is)))
-    (subst P own adds)
-
-pub mentions_none : (parts : List Part) (number : ℕ) → slice_get parts number ≡ None → (s : PartSet) → IsPartSet s → Adds (Mentions parts number) s s
-mentions_none parts number stands s is = adds_none _ s is (λ k within m. no (ap (option_and_then (λ p. slice_get p.sections m.number)) (sym stands) ∙ m.stands)) where
-  no : {A : Type 0} {h : HeadSection} → None ≡ Some h → A
-  no e = cc
-
-pub mentions_within : (parts : List Part) (k n : ℕ) → Mentions parts k n → k < length parts
-mentions_within parts k n m = go (slice_get parts k) refl m.stands where
-  go : (o : Option Part) → slice_get parts k ≡ o → option_and_then (λ p. slice_get p.sections m.number) o ≡ Some m.section → k < length parts
-  go None e h = cc
-  go (Some p) e h = slice_get_within parts k p e
-
-mentions_below : (parts : List Part) (k n : ℕ) → Mentions parts k n → n < length parts
-mentions_below parts k n m = go parts m.is where
-  go : (ps : List Part) → interface_at ps m.name ≡ Some n → n < length ps
-  go [] e = cc
-  go (p ∷ ps) e = (position-Some (λ q. heads_interface m.name q.head) (p ∷ ps) n p e).0
-
 -- ---- what a unit exports
 
 pub exports_as : (parts : List Part) (t : Table) (number : ℕ) (part : Part) → IsTable parts t → slice_get parts number ≡ Some part → ((name : Bytes) × (part.head ≡ Some (text.Unit, name))) → (hs : List HeadSection) → hs ≡ part.sections → (s u : PartSet)
@@ -152,76 +127,49 @@ exports_marked parts of s u long none adds n = (
 
 -- ---- the closure
 
--- The set of what is found, when the mentions of its first n members are followed.
-pub record Found (parts : List Part) (from n : ℕ) (s : PartSet) : Type 0 where
-  pub is_set : IsPartSet s
-  pub long : length s.marks.items ≡ length parts
-  pub begun : from < length parts → is_marked s.marks.items from ≡ true
-  pub sound : (k : ℕ) → is_marked s.marks.items k ≡ true → Reaches parts from k
-  pub closed : (j k m : ℕ) → j < n → slice_get s.members.items j ≡ Some k → Mentions parts k m → is_marked s.marks.items m ≡ true
+has_more : (xs : List (Bor (List ℕ))) (i : ℕ) (d : Bor (List ℕ)) (name : Bytes) → i < length xs → has (names_in (take (i + 1) xs)) name ≡ (has (names_in (take i xs)) name || bytes_eq (get_or xs i d).now name)
+has_more xs i d name within = ap (λ l. has (names_in l) name) (take_more xs i d within) ∙ (ap (λ l. has l name) (map-append (λ (x : Bor (List ℕ)). x.now) (take i xs) (get_or xs i d ∷ []))
+    ∙ (list_any-append (λ y. bytes_eq y name) (names_in (take i xs)) ((get_or xs i d).now ∷ []) ∙ ap (λ b. has (names_in (take i xs)) name || b) (or_none (bytes_eq (get_or xs i d).now name)))) where
+      or_none : (b : Bool) → (b || false) ≡ b
+      or_none true = refl
+      or_none false = refl
 
-abbrev pub Followed : List Part → PartSet → ℕ → ℕ → Type 0
-Followed parts s j m = (k : ℕ) × (slice_get s.members.items j ≡ Some k) × Mentions parts k m
+pub named_none : (t : Table) (xs : List (Bor (List ℕ))) (s : PartSet) → IsPartSet s → Adds (IsNamed t (names_in (take 0 xs))) s s
+named_none t xs s is = adds_none _ s is (λ k within m. no m.1) where
+  no : {A : Type 0} → false ≡ true → A
+  no e = cc
 
-pub found_begun : (parts : List Part) (from : ℕ) (s t : PartSet) → length s.marks.items ≡ length parts → ((k : ℕ) → is_marked s.marks.items k ≡ false) → Adds (λ k. k ≡ from) s t → Found parts from 0 t
-found_begun parts from s t long none adds = record {
-  is_set = adds.is_set;
-  long = adds.long ∙ long;
-  begun = λ within. adds.added from (omega (arith, long)) refl;
-  sound = λ k h. elim (adds.only k h) [ inl old ↦ absurd (false≢true (sym (none k) ∙ old)) | inr e ↦ (let P : ℕ → Type 0 = λ x. Reaches parts from x in subst P (sym e) itself) ];
-  closed = λ j k m below. absurd (omega (arith, below));
-}
+pub named_more : (t : Table) (xs : List (Bor (List ℕ))) (i : ℕ) (d : Bor (List ℕ)) (s u v : PartSet) → i < length xs
+    → Adds (IsNamed t (names_in (take i xs))) s u → Adds (λ k. interface_in t (get_or xs i d).now ≡ Some k) u v → Adds (IsNamed t (names_in (take (i + 1) xs))) s v
+named_more t xs i d s u v within before now =
+    adds_both (IsNamed t (names_in (take i xs))) (λ k. interface_in t (get_or xs i d).now ≡ Some k) (IsNamed t (names_in (take (i + 1) xs))) s u v before now
+    (λ k r. elim (or_true (has (names_in (take i xs)) r.0) (bytes_eq (get_or xs i d).now r.0) (sym (has_more xs i d r.0 within) ∙ r.1)) [
+      | inl old ↦ inl (r.0, old, r.2)
+      | inr new ↦ inr (ap (interface_in t) ((bytes_eq-Decides (get_or xs i d).now r.0).0 new) ∙ r.2)
+    ])
+    (λ k p. (p.0, has_more xs i d p.0 within ∙ or_left _ _ p.1, p.2))
+    (λ k q. ((get_or xs i d).now, has_more xs i d (get_or xs i d).now within ∙ or_right (has (names_in (take i xs)) (get_or xs i d).now) _ ((bytes_eq-Decides (get_or xs i d).now (get_or xs i d).now).1 refl), q))
 
-pub found_more : (parts : List Part) (from n : ℕ) (s t : PartSet) → Found parts from n s → Adds (Followed parts s n) s t → Found parts from (n + 1) t
-found_more parts from n s t f adds = record {
-  is_set = adds.is_set;
-  long = adds.long ∙ f.long;
-  begun = λ within. adds.kept from (f.begun within);
-  sound = λ k h. elim (adds.only k h) [ inl was ↦ f.sound k was | inr e ↦ further (f.sound e.0 (f.is_set.marked n e.0 e.1)) e.2 ];
-  closed = λ j k m below at mentions. go j k m below at mentions (slice_get s.members.items j) refl;
-} where
-  here : (k m : ℕ) → slice_get s.members.items n ≡ Some k → Mentions parts k m → is_marked t.marks.items m ≡ true
-  here k m at mentions = adds.added m (let b = mentions_below parts k m mentions in let l = f.long in omega (arith, b, l)) (k, at, mentions)
+interface_below : (parts : List Part) (name : Bytes) (n : ℕ) → interface_at parts name ≡ Some n → n < length parts
+interface_below [] name n e = cc
+interface_below (p ∷ ps) name n e = (position-Some (λ q. heads_interface name q.head) (p ∷ ps) n p e).0
 
-  old : (j k m : ℕ) → j < n + 1 → slice_get s.members.items j ≡ Some k → Mentions parts k m → is_marked t.marks.items m ≡ true
-  old j k m below at mentions = elim (cases_eq j n) [
-    | inl same ↦ here k m (ap (slice_get s.members.items) (sym same) ∙ at) mentions
-    | inr other ↦ adds.kept m (f.closed j k m (omega arith) at mentions)
-  ]
-
-  same_some : (a b : ℕ) → Some a ≡ Some b → a ≡ b
-  same_some a b e = cc
-
-  past : (xs : List ℕ) (j : ℕ) → slice_get xs j ≡ None → length xs ≤ j
-  past [] j e = omega arith
-  past (x ∷ xs) zero e = cc
-  past (x ∷ xs) (suc j) e = let h = past xs j e in omega arith
-
-  -- nothing is followed behind the last member
-  behind : (j : ℕ) → j < n + 1 → slice_get s.members.items j ≡ None → (m : ℕ) → Followed parts s n m → ⊥
-  behind j below e m w = let p = past s.members.items j e in let q = slice_get_within s.members.items n w.0 w.1 in omega (arith, p, q)
-
-  go : (j k m : ℕ) → j < n + 1 → slice_get t.members.items j ≡ Some k → Mentions parts k m → (o : Option ℕ) → slice_get s.members.items j ≡ o → is_marked t.marks.items m ≡ true
-  go j k m below at mentions (Some l) e = old j k m below (e ∙ (sym (adds.order j l e) ∙ at)) mentions
-  go j k m below at mentions None e =
-      let there : is_marked s.marks.items k ≡ true = elim (adds.only k (adds.is_set.marked j k at)) [ inl was ↦ was | inr w ↦ absurd (behind j below e k w) ] in
-      let l = f.is_set.listed k there in
-      let p = past s.members.items j e in
-      let q = slice_get_within s.members.items l.0 k l.1 in
-      old l.0 k m (omega (arith, p, q)) l.1 mentions
-
-reached_marked : (parts : List Part) (from n : ℕ) (s : PartSet) → length parts ≤ n → Found parts from n s → (k : ℕ) → Reaches parts from k → k < length parts → is_marked s.marks.items k ≡ true
-reached_marked parts from n s all f k itself within = f.begun within
-reached_marked parts from n s all f k (further {m = m} r mentions) within =
-    let l = f.is_set.listed m (reached_marked parts from n s all f m r (mentions_within parts m k mentions)) in
-    let q = slice_get_within s.members.items l.0 m l.1 in
-    let c = f.is_set.counted in
-    let b = count_by-le-length (λ x. x) s.marks.items in
-    let g = f.long in
-    f.closed l.0 m k (omega (arith, q, c, b, g)) l.1 mentions
-
-pub found_all : (parts : List Part) (from n : ℕ) (s : PartSet) → length parts ≤ n → Found parts from n s → (k : ℕ) → (is_marked s.marks.items k ≡ true) ↔ ((k < length parts) × Reaches parts from k)
-found_all parts from n s all f k = (
-  λ h. ((let w = marked_within s.marks.items k h in let l = f.long in omega (arith, w, l)), f.sound k h),
-  λ r. reached_marked parts from n s all f k r.1 r.0,
+pub closure_found : (parts : List Part) (t : Table) (from : ℕ) (names : List Bytes) (s u v : PartSet) → IsTable parts t → names ≡ reached parts from → length s.marks.items ≡ length parts → ((k : ℕ) → is_marked s.marks.items k ≡ false)
+    → Adds (λ k. k ≡ from) s u → Adds (IsNamed t names) u v → (k : ℕ) → (is_marked v.marks.items k ≡ true) ↔ ((k < length parts) × Reaches parts from k)
+closure_found parts t from names s u v is same long none first second k = (
+  λ h. ((let w = marked_within v.marks.items k h in let a = first.long in let b = second.long in omega (arith, w, a, b, long)), elim (second.only k h) [
+    | inl before ↦ elim (first.only k before) [ inl old ↦ absurd (false≢true (sym (none k) ∙ old)) | inr e ↦ inl (sym e) ]
+    | inr m ↦ inr (m.0, ap (λ l. has l m.0) (sym same) ∙ m.1, sym (is.interfaces m.0) ∙ m.2)
+  ]),
+  λ r. elim r.1 [
+    | inl e ↦ second.kept k (first.added k (let w = r.0 in omega (arith, w, long)) (sym e))
+    | inr m ↦ second.added k (let w = r.0 in let a = first.long in omega (arith, w, long, a)) (m.0, ap (λ l. has l m.0) same ∙ m.1, is.interfaces m.0 ∙ m.2)
+  ],
 )
+
+-- ---- what is told
+
+pub told_more : (parts : List Part) (i : ℕ) (p : Part) (c : Closures) → i < length parts → p ≡ get_or parts i p → AreClosures (uses (take i parts) ++ uses_of p) c → AreClosures (uses (take (i + 1) parts)) c
+told_more parts i p c within at are = let P : Uses → Type 0 = λ l. AreClosures l c in subst P (ap (λ q. uses (take i parts) ++ uses_of q) at ∙ sym step) are where
+  step : uses (take (i + 1) parts) ≡ uses (take i parts) ++ uses_of (get_or parts i p)
+  step = ap uses (take_more parts i p within) ∙ (flat_map-append uses_of (take i parts) (get_or parts i p ∷ []) ∙ ap (λ l. uses (take i parts) ++ l) (append-nil (uses_of (get_or parts i p))))

@@ -5,3 +5,4 @@ pub mod Closing
 pub mod Places
 pub mod Meanings
 mod TableLaws
+pub mod Reached

@@ -1,7 +1,8 @@
 -- The closure of a part: itself, and the interfaces reached by what it exports and uses. A cycle is ordinary.
-use Rattle.std.specs.Prelude.{◌≡◌, ◌⊎◌, ◌<◌, ℕ, Bool, true, false, if◌then◌else◌, List, [], Option, None, Some, slice_get, position}
+use Rattle.std.specs.Prelude.{◌≡◌, ◌⊎◌, ◌<◌, ℕ, Bool, true, false, if◌then◌else◌, List, [], ◌∷◌, map, flat_map, Option, None, Some, slice_get, position}
 use Rattle.std.specs.List.{list_any}
 use Rattle.std.specs.Str.{bytes_eq}
+use Rattle.vd_closure.specs.Reach.{Uses, has, reach}
 use Rattle.vd_outline.specs.declared.outline.TextKind.{TextKind}
 use Rattle.vd_outline.specs.declared.outline.TextKind.TheVariants as text
 use Rattle.vd_heads.specs.declared.content.Content.{Content}
@@ -10,7 +11,7 @@ use Rattle.vd_heads.specs.declared.content.HeadSection.{HeadSection}
 use Rattle.vd_heads.specs.declared.content.Mention.{Mention}
 use Rattle.vd_heads.specs.declared.content.Part.{Part}
 use Rattle.vd_heads.specs.declared.table.Space.{Space}
-use Rattle.vd_heads.specs.Declaration.{Bytes, IsSection, IsDeclared}
+use Rattle.vd_heads.specs.Declaration.{Bytes, IsSection, IsDeclared, sections_in}
 
 abbrev pub is_interface : TextKind → Bool
 is_interface text.Interface = true
@@ -46,26 +47,32 @@ abbrev pub mentioned : Content → List Mention
 mentioned (content.Uses mentions) = mentions
 mentioned c = exported c
 
+-- the names that sections export or use, in their order
+abbrev pub mentions_in : List HeadSection → List Bytes
+mentions_in sections = flat_map (λ h. map (λ m. m.name) (mentioned h.content)) sections
+
+-- what the interface of a name uses; another part is not reached
+abbrev pub uses_by : Option Bytes → List Bytes → Uses
+uses_by None names = []
+uses_by (Some name) names = (name, names) ∷ []
+
+abbrev pub uses_of : Part → Uses
+uses_of p = uses_by (interface_name p.head) (mentions_in p.sections)
+
+abbrev pub uses : List Part → Uses
+uses parts = flat_map uses_of parts
+
 abbrev pub exports_name : Bytes → Content → Bool
 exports_name name c = lists name (exported c)
 
-abbrev pub mentions_name : Bytes → Content → Bool
-mentions_name name c = lists name (mentioned c)
-
 module _ (parts : List Part) where
-  -- The part of number k exports or uses the interface of number n.
-  pub record Mentions (k n : ℕ) : Type 0 where
-    pub number : ℕ
-    pub section : HeadSection
-    pub name : Bytes
-    pub stands : IsSection parts k number section
-    pub mentioned : mentions_name name section.content ≡ true
-    pub is : interface_at parts name ≡ Some n
+  -- the names that the part of a number reaches: those that it exports or uses, each at its first mention, followed by what is used there
+  abbrev pub reached : ℕ → List Bytes
+  reached own = reach (uses parts) (mentions_in (sections_in (slice_get parts own)))
 
-  -- The part of number n is in the closure of that of number k.
-  pub data Reaches (k : ℕ) : ℕ → Type 0 where
-    itself : Reaches k k
-    further : {m n : ℕ} → Reaches k m → Mentions m n → Reaches k n
+  -- The part of number k is in the closure of that of number own: it is the part itself, or the interface of a name that is reached.
+  abbrev pub Reaches : ℕ → ℕ → Type 0
+  Reaches own k = (own ≡ k) ⊎ ((name : Bytes) × (has (reached own) name ≡ true) × (interface_at parts name ≡ Some k))
 
   -- The part is that of a unit.
   pub record IsUnit (k : ℕ) : Type 0 where

@@ -6,3 +6,4 @@ pub mod Assertions
 pub mod Least
 pub mod Views
 pub mod PartSet
+pub mod Laws

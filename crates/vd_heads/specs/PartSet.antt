@@ -6,6 +6,7 @@ use Rattle.vd_heads.specs.declared.content.Content.{Content}
 use Rattle.vd_heads.specs.declared.content.Mention.{Mention}
 use Rattle.vd_heads.specs.declared.part_set.PartSet.{PartSet}
 use Rattle.vd_heads.specs.declared.table.Table.{Table}
+use Rattle.vd_closure.specs.Reach.{has}
 use Rattle.vd_heads.specs.Closure.{lists}
 use Rattle.vd_heads.specs.Declaration.{Bytes}
 use Rattle.vd_heads.specs.Views.{is_marked, interface_in}
@@ -28,6 +29,10 @@ pub record Adds (P : ℕ → Type 0) (s t : PartSet) : Type 0 where
 -- The names mention the interface of number k, by the table.
 abbrev pub IsMentioned : Table → List Mention → ℕ → Type 0
 IsMentioned table mentions k = (name : Bytes) × (lists name mentions ≡ true) × (interface_in table name ≡ Some k)
+
+-- One of the names is that of the interface of number k, by the table.
+abbrev pub IsNamed : Table → List Bytes → ℕ → Type 0
+IsNamed table names k = (name : Bytes) × (has names name ≡ true) × (interface_in table name ≡ Some k)
 
 -- One of the sections, the number of which is below n, does so by the names that are taken of it.
 abbrev pub IsMentionedBelow : Table → (Content → List Mention) → List HeadSection → ℕ → ℕ → Type 0

@@ -12,7 +12,9 @@ use Rattle.vd_heads.specs.declared.table.Space.TheVariants as space
 use Rattle.vd_heads.specs.declared.table.Spot.{Spot}
 use Rattle.vd_heads.specs.declared.table.Table.{Table}
 use Rattle.vd_heads.specs.declared.view.View.{View}
-use Rattle.vd_heads.specs.Closure.{Reaches, Exports, interface_at}
+use Rattle.vd_closure.specs.declared.closures.Closures.{Closures}
+use Rattle.vd_closure.specs.Numbered.{AreClosures, IsReady}
+use Rattle.vd_heads.specs.Closure.{Reaches, Exports, interface_at, uses}
 use Rattle.vd_heads.specs.Declaration.{Bytes, declares}
 
 -- ---- where a name is declared
@@ -60,6 +62,10 @@ pub record AreDeclarations (places : Bytes → List Spot) (d : Declarations) : T
 pub record IsTable (parts : List Part) (t : Table) : Type 0 where
   pub declarations : (s : Space) → AreDeclarations (spots_of parts s) (in_space s t)
   pub interfaces : (name : Bytes) → interface_in t name ≡ interface_at parts name
+
+-- The closures are those of the parts.
+abbrev pub AreClosuresOf : List Part → Closures → Type 0
+AreClosuresOf parts c = IsReady c × AreClosures (uses parts) c
 
 -- ---- views
 

@@ -1,15 +1,19 @@
 //! The closure of a part: itself, and the interfaces that what is in it exports or uses.
 
-ghost use Rattle.std.specs.Prelude.{◌≡◌, ◌<◌, ◌↔◌, ℕ, true, Some, length, slice_get, IfOk, OnOk};
-ghost use Rattle.vd_heads.specs.Closure.{Reaches, Exports, Mentions, exported, mentioned};
-ghost use Rattle.vd_heads.specs.PartSet.{Adds, IsMentioned, IsMentionedBelow, IsPartSet};
-ghost use Rattle.vd_heads.specs.Views.{IsTable, interface_in, is_marked};
+ghost use Rattle.std.specs.Prelude.{◌≡◌, ◌<◌, ◌↔◌, ◌++◌, ℕ, true, Some, length, map, slice_get, IfOk, OnOk};
+ghost use Rattle.vd_closure.specs.Numbered.{AreClosures, IsReady, names_in};
+ghost use Rattle.vd_closure.specs.Reach.{Uses};
+ghost use Rattle.vd_heads.specs.Closure.{Reaches, Exports, exported, mentioned, mentions_in, uses_of};
+ghost use Rattle.vd_heads.specs.Declaration.{sections_in};
+ghost use Rattle.vd_heads.specs.PartSet.{Adds, IsMentioned, IsMentionedBelow, IsNamed, IsPartSet};
+ghost use Rattle.vd_heads.specs.Views.{AreClosuresOf, IsTable, interface_in, is_marked};
 
 use crate::content::{Content, HeadSection, Mention, Part};
 use crate::part_set::PartSet;
 use crate::table::Table;
 use std::alloc::{AllocError, Global};
 use vd_base::Name;
+use vd_closure::Closures;
 
 /// The names that a section exports.
 fn exported(content: &Content) -> &[Mention]
@@ -43,14 +47,85 @@ fn mentioned(content: &Content) -> &[Mention]
     }
 }
 
-fn add_interface(table: &Table<'_>, name: &Name, set: &mut PartSet) -> Result<(), AllocError>
+/// Adds the names in a list of names.
+fn add_names<'n>(names: &mut Vec<&'n [u8]>, mentions: &'n [Mention]) -> Result<(), AllocError>
+    ensures { OnOk result (names_in names.new.items ≡ names_in names.old.items ++ map (λ m. m.name) mentions.now) }
+{
+    for mention in mentions {
+        names.push(mention.name.as_bytes())?;
+    }
+    Ok(())
+}
+
+/// The names that sections export or use, in their order.
+fn mentions<'n>(alloc: Global, sections: &'n [HeadSection]) -> Result<Vec<&'n [u8]>, AllocError>
+    ensures { IfOk result (λ names. names_in names.items ≡ mentions_in sections.now) }
+{
+    let mut names = Vec::new(alloc);
+    for section in sections {
+        add_names(&mut names, mentioned(&section.content))?;
+    }
+    Ok(names)
+}
+
+/// Tells what a part uses, where it is that of an interface.
+fn tell<'n>(
+    alloc: Global,
+    part: &'n Part,
+    closures: &mut Closures<'n>,
+) -> Result<(), AllocError>
+    requires { IsReady closures.old }
+    ensures ready { OnOk result (IsReady closures.new) }
+    ensures told { (all : Uses) → AreClosures all closures.old → OnOk result (AreClosures (all ++ uses_of part.now) closures.new) }
+{
+    match part.interface() {
+        Some(name) => {
+            let names = mentions(alloc, part.sections.as_slice())?;
+            closures.add(alloc, name.as_bytes(), names.as_slice())
+        }
+        None => Ok(()),
+    }
+}
+
+/// The closures of parts, for all views of them.
+pub fn closures_of(alloc: Global, parts: &[Part]) -> Result<Closures<'_>, AllocError>
+    ensures { IfOk result (AreClosuresOf parts.now) }
+{
+    let mut closures = Closures::new(alloc);
+    for part in parts {
+        tell(alloc, part, &mut closures)?;
+    }
+    Ok(closures)
+}
+
+/// The sections of the part of a number.
+fn sections_at(parts: &[Part], number: usize) -> &[HeadSection]
+    ensures { result.now ≡ sections_in (slice_get parts.now number) }
+{
+    match parts.get(number) {
+        Some(part) => part.sections.as_slice(),
+        None => &[],
+    }
+}
+
+fn add_interface(table: &Table<'_>, name: &[u8], set: &mut PartSet) -> Result<(), AllocError>
     requires { IsPartSet set.old }
     ensures { OnOk result (Adds (λ k. interface_in table.now name.now ≡ Some k) set.old set.new) }
 {
-    match table.interface(name) {
+    match table.interface_named(name) {
         Some(number) => set.add(number),
         None => Ok(()),
     }
+}
+
+fn add_named(table: &Table<'_>, names: &[&[u8]], set: &mut PartSet) -> Result<(), AllocError>
+    requires { IsPartSet set.old }
+    ensures { OnOk result (Adds (IsNamed table.now (names_in names.now)) set.old set.new) }
+{
+    for name in names {
+        add_interface(table, *name, set)?;
+    }
+    Ok(())
 }
 
 fn add_mentions(
@@ -62,7 +137,7 @@ fn add_mentions(
     ensures { OnOk result (Adds (IsMentioned table.now mentions.now) set.old set.new) }
 {
     for mention in mentions {
-        add_interface(table, &mention.name, set)?;
+        add_interface(table, mention.name.as_bytes(), set)?;
     }
     Ok(())
 }
@@ -81,67 +156,24 @@ fn add_exported(
     Ok(())
 }
 
-fn add_mentioned(
-    table: &Table<'_>,
-    sections: &[HeadSection],
-    set: &mut PartSet,
-) -> Result<(), AllocError>
-    requires { IsPartSet set.old }
-    ensures { OnOk result (Adds (IsMentionedBelow table.now mentioned sections.now (length sections.now)) set.old set.new) }
-{
-    for section in sections {
-        add_mentions(table, mentioned(&section.content), set)?;
-    }
-    Ok(())
-}
-
-/// Adds what the part of a number exports or uses.
-fn add_next(
-    parts: &[Part],
-    table: &Table<'_>,
-    number: usize,
-    set: &mut PartSet,
-) -> Result<(), AllocError>
-    requires table { IsTable parts.now table.now }
-    requires set { IsPartSet set.old }
-    ensures { OnOk result (Adds (Mentions parts.now number) set.old set.new) }
-{
-    match parts.get(number) {
-        Some(part) => add_mentioned(table, part.sections.as_slice(), set),
-        None => Ok(()),
-    }
-}
-
-/// Adds what the member at a place exports or uses.
-fn follow(parts: &[Part], table: &Table<'_>, at: usize, set: &mut PartSet) -> Result<(), AllocError>
-    requires table { IsTable parts.now table.now }
-    requires set { IsPartSet set.old }
-    ensures { OnOk result (Adds (λ n. (k : ℕ) × (slice_get set.old.members.items at ≡ Some k) × Mentions parts.now k n) set.old set.new) }
-{
-    match set.members.get(at) {
-        Some(member) => {
-            let number = *member;
-            add_next(parts, table, number, set)
-        }
-        None => Ok(()),
-    }
-}
-
 /// The parts in the closure of a part.
-pub fn closure_of(
+pub fn closure_of<'n>(
     alloc: Global,
-    parts: &[Part],
+    parts: &'n [Part],
     table: &Table<'_>,
+    closures: &mut Closures<'n>,
     from: usize,
 ) -> Result<Vec<bool>, AllocError>
-    requires { IsTable parts.now table.now }
-    ensures { IfOk result (λ marks. (k : ℕ) → (is_marked marks.items k ≡ true) ↔ ((k < length parts.now) × Reaches parts.now from k)) }
+    requires table { IsTable parts.now table.now }
+    requires closures { AreClosuresOf parts.now closures.old }
+    ensures marks { IfOk result (λ marks. (k : ℕ) → (is_marked marks.items k ≡ true) ↔ ((k < length parts.now) × Reaches parts.now from k)) }
+    ensures closures { OnOk result (AreClosuresOf parts.now closures.new) }
 {
+    let mentioned = mentions(alloc, sections_at(parts, from))?;
+    let names = closures.reach(alloc, mentioned.as_slice())?;
     let mut set = PartSet::new(alloc, parts.len())?;
     set.add(from)?;
-    for at in 0..parts.len() {
-        follow(parts, table, at, &mut set)?;
-    }
+    add_named(table, names.as_slice(), &mut set)?;
     let PartSet { marks, members: _ } = set;
     Ok(marks)
 }

@@ -4,14 +4,17 @@
 mod closure;
 mod content;
 mod holding;
+mod laws;
 mod part_set;
 mod parts;
 mod smallest;
 mod table;
 mod view;
 
+pub use closure::closures_of;
 pub use content::{Content, HeadSection, Mention, Part};
 pub use holding::held;
+pub use laws::part_closure_laws;
 pub use parts::{head_line, head_part, header_lines, is_head, section_word};
 pub use smallest::least;
 pub use table::{Declarations, Space, Spot, Table};

@@ -126,7 +126,14 @@ impl<'a> Table<'a> {
     pub fn interface(&self, name: &Name) -> Option<usize>
         ensures { result ≡ interface_in self.now name.now }
     {
-        self.interfaces.get(name.as_bytes()).copied()
+        self.interface_named(name.as_bytes())
+    }
+
+    /// The same, where the name is bytes.
+    pub fn interface_named(&self, name: &[u8]) -> Option<usize>
+        ensures { result ≡ interface_in self.now name.now }
+    {
+        self.interfaces.get(name).copied()
     }
 
     fn add(

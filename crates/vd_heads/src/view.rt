@@ -1,17 +1,18 @@
 //! What a part sees.
 
-ghost use Rattle.std.specs.Prelude.{◌≡◌, ◌==◌, ◌↔◌, [], true, slice_get, option_map, option_copied, unwrap_or, IfOk, IsTrue};
+ghost use Rattle.std.specs.Prelude.{◌≡◌, ◌==◌, ◌↔◌, [], true, slice_get, option_map, option_copied, unwrap_or, IfOk, IsTrue, OnOk};
 ghost use Rattle.std.specs.List.{find};
 ghost use Rattle.vd_heads.specs.Closure.{IsUnit, Knows, MeansOption};
 ghost use Rattle.vd_heads.specs.Declaration.{section_at};
 ghost use Rattle.vd_heads.specs.Declaration.{sections_in};
-ghost use Rattle.vd_heads.specs.Views.{IsTable, IsView, is_marked, spots_of};
+ghost use Rattle.vd_heads.specs.Views.{AreClosuresOf, IsTable, IsView, is_marked, spots_of};
 
 use crate::closure::{closure_of, exports_of};
 use crate::content::{Content, HeadSection, Part};
 use crate::table::{Space, Spot, Table};
 use std::alloc::{AllocError, Global};
 use vd_base::Name;
+use vd_closure::Closures;
 
 /// A part among others, with its closure and with the interfaces that it exports. The table's names live on their own: a
 /// table that is borrowed for as long as its names live could not be dropped.
@@ -34,19 +35,22 @@ fn is_marked(marks: &Vec<bool>, number: usize) -> bool
 }
 
 impl<'a, 'n> View<'a, 'n> {
-    /// The view of the part of a number, from 0.
+    /// The view of the part of a number, from 0. The closures serve all views of the parts.
     pub fn of(
         alloc: Global,
-        parts: &'a [Part],
+        parts: &'n [Part],
         table: &'a Table<'n>,
+        closures: &mut Closures<'n>,
         own: usize,
     ) -> Result<View<'a, 'n>, AllocError>
-        requires { IsTable parts.now table.now }
+        requires table { IsTable parts.now table.now }
+        requires closures { AreClosuresOf parts.now closures.old }
+        ensures closures { OnOk result (AreClosuresOf parts.now closures.new) }
         ensures view { IfOk result IsView }
         ensures parts { IfOk result (λ view. view.parts.now ≡ parts.now) }
         ensures own { IfOk result (λ view. view.own ≡ own) }
     {
-        let closure = closure_of(alloc, parts, table, own)?;
+        let closure = closure_of(alloc, parts, table, closures, own)?;
         let exported = exports_of(alloc, parts, table, own)?;
         Ok(View {
             parts,

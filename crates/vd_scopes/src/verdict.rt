@@ -6,14 +6,15 @@ ghost use Rattle.vd_scopes.specs.Failing as failing;
 ghost use Rattle.vd_scopes.specs.Head as head;
 ghost use Rattle.vd_scopes.specs.Answers.{Answers, AnswersTexts, HasSomeHead, SaySomething, IsSplit};
 ghost use Rattle.vd_heads.specs.Least.{IsLeastOrNone};
-ghost use Rattle.vd_heads.specs.Views.{IsTable, IsView};
+ghost use Rattle.vd_heads.specs.Views.{AreClosuresOf, IsTable, IsView};
 
 use crate::contents::part_of;
 use crate::scope::{Scopes, scopes_of};
 use std::alloc::{AllocError, Global};
 use thiserror::Error;
 use vd_base::{List, Text, hold};
-use vd_heads::{Content, Part, Table, View, least};
+use vd_closure::Closures;
+use vd_heads::{Content, Part, Table, View, closures_of, least};
 use vd_known::{Bodies, first_lack, first_twice, first_unknown};
 use vd_outline::head_of;
 use vd_sized::{Sizes, first_disagreement};
@@ -97,16 +98,18 @@ fn header_failing(
 }
 
 /// The first of the conditions 1 to 5 that fails of the first part, in order, of which one does.
-fn any_failing<'a>(
+fn any_failing<'n>(
     alloc: Global,
-    parts: &'a [Part],
-    table: &'a Table<'_>,
+    parts: &'n [Part],
+    table: &Table<'n>,
+    closures: &mut Closures<'n>,
 ) -> Result<Option<(u32, u8)>, AllocError>
-    requires { IsTable parts.now table.now }
+    requires table { IsTable parts.now table.now }
+    requires closures { AreClosuresOf parts.now closures.old }
     ensures { IfOk result (λ found. MatchOption found (failing.Accepts parts.now None) (λ at. failing.Refuses parts.now None at.1 at.0)) }
 {
     for number in 0..parts.len() {
-        let view = View::of(alloc, parts, table, number)?;
+        let view = View::of(alloc, parts, table, closures, number)?;
         if let Some(failing) = first_failing(alloc, &view)? {
             return Ok(Some(failing));
         }
@@ -115,18 +118,22 @@ fn any_failing<'a>(
 }
 
 /// The first condition that fails where these are the header lines of the own text's other sections, or none are there.
-fn first_refusal(
+fn first_refusal<'n>(
     alloc: Global,
-    own: &View<'_, '_>,
+    parts: &'n [Part],
+    own: &View<'_, 'n>,
+    closures: &mut Closures<'n>,
     lines: Option<&Text>,
 ) -> Result<Option<(u32, u8)>, AllocError>
     requires view { IsView own.now }
     requires own { own.now.own ≡ 0 }
+    requires parts { own.now.parts.now ≡ parts.now }
+    requires closures { AreClosuresOf parts.now closures.old }
     ensures { IfOk result (λ found. MatchOption found (failing.Accepts own.now.parts.now (option_copied lines.entry)) (λ at. failing.Refuses own.now.parts.now (option_copied lines.entry) at.1 at.0)) }
 {
     match lines {
         Some(lines) => header_failing(alloc, own, lines),
-        None => any_failing(alloc, own.parts, own.table),
+        None => any_failing(alloc, parts, own.table, closures),
     }
 }
 
@@ -135,8 +142,9 @@ fn judged(alloc: Global, parts: &[Part], lines: Option<&Text>) -> Result<Scopes,
     ensures { Answers parts.now (option_copied lines.entry) result }
 {
     let table = hold(Table::of(alloc, parts)?);
-    let own = View::of(alloc, parts, table.get(), 0)?;
-    match first_refusal(alloc, &own, lines)? {
+    let mut closures = closures_of(alloc, parts)?;
+    let own = View::of(alloc, parts, table.get(), &mut closures, 0)?;
+    match first_refusal(alloc, parts, &own, &mut closures, lines)? {
         Some((place, condition)) => Err(HeadFault::Refused(place, condition)),
         None => Ok(scopes_of(alloc, &own)?),
     }

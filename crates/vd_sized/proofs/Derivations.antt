@@ -10,14 +10,13 @@ use Rattle.vd_heads.specs.declared.content.Part.{Part}
 use Rattle.vd_heads.specs.declared.table.Space.{Space}
 use Rattle.vd_heads.specs.declared.table.Space.TheVariants as space
 use Rattle.vd_heads.specs.Closure.{IsUnambiguous, Knows, Means}
-use Rattle.vd_heads.specs.Closure as closure
 use Rattle.vd_sized.specs.Cells.{HasCells, HaveCells, is_one}
 use Rattle.vd_sized.specs.Cells as cells
 use Rattle.vd_sized.proofs.Shapes.{one_no_array, one_no_struct, array_no_struct, same_array, same_struct}
 
 -- what has a meaning is known
 pub means_known : (parts : List Part) (own : ℕ) (s : Space) (name : List ℕ) (c : Content) → Means parts own s name c → Knows parts own s name
-means_known parts own s name c (inl m) = (own, m.0, c, record { reached = closure.itself; declared = m.1 })
+means_known parts own s name c (inl m) = (own, m.0, c, record { reached = inl refl; declared = m.1 })
 means_known parts own s name c (inr m) = (m.1.0, m.1.1, c, m.1.2)
 
 same_fields : (n m : List ℕ) (f g : List Field) → content.Struct n f ≡ content.Struct m g → f ≡ g

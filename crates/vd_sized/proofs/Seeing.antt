@@ -16,7 +16,6 @@ use Rattle.vd_heads.specs.declared.content.Part.{Part}
 use Rattle.vd_heads.specs.declared.table.Space.TheVariants as space
 use Rattle.vd_heads.specs.declared.view.View.{View}
 use Rattle.vd_heads.specs.Closure.{Means, Reaches}
-use Rattle.vd_heads.specs.Closure as closure
 use Rattle.vd_heads.specs.Declaration.{Bytes, IsSection, declares}
 use Rattle.vd_sized.specs.Seen.{AreAdded, AreAllSeen, AreOpen, AreSeenBefore, HasOpened, IsMeant, IsNoStruct, IsNotMeant, IsStruct, MeansStruct, Names}
 use Rattle.vd_sized.specs.declared.order.Open.{Open}
@@ -197,7 +196,7 @@ module _ (view : View) (n : ℕ) (seen : List StructSeen) (le : length view.part
   seen_at k i name fields m r h s e = let lt = part_within view.parts.now k i h s in before.all k i h name fields fields (omega (arith, lt, le)) r s e m
 
   seen_by : (name : Bytes) (fields : List Field) → MeansStruct view name fields → Means view.parts.now view.own space.Struct name (content.Struct name fields) → Names seen name
-  seen_by name fields m (inl own) = seen_at view.own own.0 name fields m closure.itself own.1.section own.1.stands own.1.says
+  seen_by name fields m (inl own) = seen_at view.own own.0 name fields m (inl refl) own.1.section own.1.stands own.1.says
   seen_by name fields m (inr far) = seen_at far.1.0 far.1.1 name fields m far.1.2.reached far.1.2.declared.section far.1.2.declared.stands far.1.2.declared.says
 
   pub all_seen : AreAllSeen view seen

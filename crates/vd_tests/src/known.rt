@@ -3,7 +3,7 @@
 use std::alloc::{AllocError, Global};
 use vd_base::{CType, Field, List, Text};
 use vd_ground_tests::{name, one};
-use vd_heads::{Content, HeadSection, Mention, Part, Table, View};
+use vd_heads::{Content, HeadSection, Mention, Part, Table, View, closures_of};
 use vd_known::{Bodies, first_lack, first_twice, first_unknown};
 use vd_logic::{Assertion, Spec};
 use vd_outline::TextKind;
@@ -95,7 +95,8 @@ fn faults(
     own: usize,
 ) -> Result<(Option<u32>, Option<u32>), AllocError> {
     let table = Table::of(alloc, parts)?;
-    let view = View::of(alloc, parts, &table, own)?;
+    let mut closures = closures_of(alloc, parts)?;
+    let view = View::of(alloc, parts, &table, &mut closures, own)?;
     let unknown = first_unknown(alloc, &view)?;
     let twice = first_twice(alloc, &view)?;
     Ok((unknown, twice))
@@ -106,7 +107,8 @@ fn lack(alloc: Global, parts: &[Part], lines: &[u8]) -> Result<Option<u32>, Allo
     let lines = Text::new(alloc, lines)?;
     let bodies = Bodies::of(alloc, &lines)?;
     let table = Table::of(alloc, parts)?;
-    let view = View::of(alloc, parts, &table, 0)?;
+    let mut closures = closures_of(alloc, parts)?;
+    let view = View::of(alloc, parts, &table, &mut closures, 0)?;
     Ok(first_lack(&view, &bodies))
 }
 

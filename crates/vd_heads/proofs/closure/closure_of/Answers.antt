@@ -1,11 +1,11 @@
-use Rattle.vd_heads.proofs.Closing.{found_begun, found_more, found_all}
+use Rattle.std.proofs.Common.{◌∙◌, ap}
+use Rattle.vd_closure.specs.Reach.{reach}
+use Rattle.vd_closure.specs.Numbered.{names_in}
+use Rattle.vd_heads.specs.Closure.{mentions_in, uses}
+use Rattle.vd_heads.proofs.Closing.{closure_found}
 use Rattle.vd_heads.proofs.closure.closure_of.Goals as goal
 
-pub loop-at-init : goal.loop-at-init
-loop-at-init c = found_begun c.args.parts.now c.args.from c.in_ok-set.set c.add.new.self c.in_ok-set.ensures.long c.in_ok-set.ensures.none c.in_ok-add.ensures
-
-pub loop-at-preserved : goal.loop-at-preserved
-loop-at-preserved c = found_more c.args.parts.now c.args.from c.loop-at.at c.loop-at.set c.follow.new.set c.loop-at.invariant c.in_ok-follow.ensures
-
-pub returns : goal.returns
-returns c = found_all c.args.parts.now c.args.from c.loop-at.at c.loop-at.set c.loop-at-test.false c.loop-at.invariant
+pub returns-clause-marks : goal.returns-clause-marks
+returns-clause-marks c = closure_found c.args.parts.now c.args.table.now c.args.from (names_in c.as_slice-2.result.now) c.in_ok-set.set c.add.new.self c.add_named.new.set c.requires.table
+    (ap names_in c.as_slice-2.ensures.value ∙ (c.in_ok-names.ensures.reached (uses c.args.parts.now) c.requires.closures.1 ∙ ap (reach (uses c.args.parts.now)) (ap names_in c.as_slice.ensures.value ∙ (c.in_ok-mentioned.ensures ∙ ap mentions_in c.sections_at.ensures))))
+    c.in_ok-set.ensures.long c.in_ok-set.ensures.none c.in_ok-add.ensures c.in_ok-add_named.ensures

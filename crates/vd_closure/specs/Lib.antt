@@ -1,0 +1,5 @@
+pub mod Walk
+pub mod Reach
+pub mod Laws
+pub mod Rows
+pub mod Numbered
