@@ -34,7 +34,7 @@ local_value (Some (Some n)) = Some (record { number = n; owed = [] })
 local_value _ = None
 
 abbrev pub value_layer : Locals → TExpr-F (Unit {0}) (Option Value) (Unit {0}) → Option Value
-value_layer locals (expression.Const n) = Some (record { number = n; owed = [] })
+value_layer locals (expression.Const n) = Some (record { number = wrapped (pos n); owed = [] })
 value_layer locals (expression.Temp i) = local_value (slice_get locals i)
 value_layer locals (expression.Binary o k a b) = binary_value o k a b
 value_layer locals _ = None

@@ -1,4 +1,5 @@
--- When a program is whole: each name that it uses stands for one thing of it, and its numbers are in range.
+-- When a program is whole: each name that it uses stands for one thing of it, each global has a name of its own, and its numbers are in
+-- range.
 use Rattle.std.specs.Prelude.{ℕ, ◌^◌, nat_lt, nat_le, Bool, true, not, ◌&&◌, ◌||◌, ◌==◌, List, length, slice_get, Option, None, Some, false}
 use Rattle.std.specs.List.{list_all, count_by}
 use Rattle.std.specs.Str.{bytes_eq}
@@ -105,9 +106,11 @@ abbrev pub is_whole_init : Program → Init → Bool
 is_whole_init p (initial.Int n) = true
 is_whole_init p (initial.Addr name) = has_global p name
 
--- a global: it is not too large, and has no more initial values than cells
+-- a global: no other one has its name, so that its name stands for its own block; it is not too large, and has no more initial values
+-- than cells
 abbrev pub is_whole_global : Program → GlobalDef → Bool
-is_whole_global p g = nat_le g.cells most_cells && (nat_le (length g.init) g.cells && list_all (is_whole_init p) g.init)
+is_whole_global p g =
+    has_global p g.name && (nat_le g.cells most_cells && (nat_le (length g.init) g.cells && list_all (is_whole_init p) g.init))
 
 -- main is there and has no parameter
 abbrev pub is_main : Option TypedFn → Bool

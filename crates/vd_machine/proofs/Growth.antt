@@ -2,6 +2,7 @@
 use Rattle.std.proofs.Common.{◌≡◌, ℕ, zero, suc, ◌+◌, ◌<◌, ◌≤◌, Bool, true, false, List, [], ◌∷◌, ◌++◌, length, Option, Some, None, Ok, Err, Result, refl, sym, ap, subst, arith, length-append}
 use Rattle.std.specs.Prelude.{slice_get, IsSome, cond}
 use Rattle.std.proofs.lemmas.Bool.{false≢true}
+use Rattle.vd_clight.specs.declared.program.GlobalDef.{GlobalDef}
 use Rattle.vd_clight.specs.declared.program.Program.{Program}
 use Rattle.vd_clight.specs.declared.typed.LockOp.{LockOp}
 use Rattle.vd_clight.specs.declared.typed.LockOp.TheVariants as lock
@@ -20,7 +21,7 @@ use Rattle.std.proofs.Common.{slice_set}
 use Rattle.vd_machine.specs.Arithmetic.{Evaluated}
 use Rattle.vd_machine.specs.Evaluation.{Temps, eval, address, eval_all, test}
 use Rattle.vd_machine.specs.Run.{Turned, Next, Waiting, Resting, Finished, Failed, turn, turn_of, after_step, at_end}
-use Rattle.vd_machine.specs.Step.{Effect, Goes, Waits, Stuck, on_value, on_place, on_data, on_lock, load, store, malloc, free, free_if, lock_at, room, Step, Moved, Forked, Blocked, Over, Wrong, give, after_effect, after_test, after_break, after_continue, after_return, after_call, after_spawn, act, step}
+use Rattle.vd_machine.specs.Step.{Effect, Goes, Waits, Stuck, on_value, on_place, on_data, on_lock, load, store, malloc, free, free_if, lock_at, room, effect, Step, Moved, Forked, Blocked, Over, Wrong, give, after_effect, after_test, after_break, after_continue, after_return, after_call, after_spawn, act, step}
 use Rattle.vd_machine.specs.Thread.{Around, Frame, Caller, Thread, Ended, Running, System, function, next}
 
 -- a cell of an old block that is live was live before
@@ -151,10 +152,24 @@ load_grows x v t m = on_place_grows m v (λ b o. on_data (cell_at m b o) (λ u. 
 store_grows : (place v : Value) (t : Temps) (m : List Block) → EffectGrows m (store place v t m)
 store_grows place v t m = on_place_grows m place (λ b o. on_data (cell_at m b o) (λ _. Goes t (put m b o (cell.Data v)))) (λ b o. on_data_grows m (cell_at m b o) (λ _. Goes t (put m b o (cell.Data v))) (λ _. put_same m b o (cell.Data v)))
 
-effect_grows : (m : List Block) (e : Effect) (fr : Frame) (cs : List Caller) → EffectGrows m e → StepGrows m (after_effect e fr cs)
-effect_grows m (Goes t m') fr cs h = h
-effect_grows m Waits fr cs h = tt
-effect_grows m (Stuck c) fr cs h = tt
+effect_grows : (globals : List GlobalDef) (pick : Bool) (s : TStmt-F TStmt) (t : Temps) (m : List Block) → EffectGrows m (effect globals pick s t m)
+effect_grows globals pick statement.Skip t m = same m
+effect_grows globals pick (statement.Set x e) t m = on_value_grows m (eval globals t e) (λ v. Goes (slice_set t x v) m) (λ v. same m)
+effect_grows globals pick (statement.Load x l) t m = on_value_grows m (address globals t l) (λ v. load x v t m) (λ v. load_grows x v t m)
+effect_grows globals pick (statement.Store l e) t m =
+    on_value_grows m (address globals t l) (λ place. on_value (eval globals t e) (λ v. store place v t m))
+    (λ place. on_value_grows m (eval globals t e) (λ v. store place v t m) (λ v. store_grows place v t m))
+effect_grows globals pick (statement.Malloc x n) t m = malloc_grows pick x n t m
+effect_grows globals pick (statement.Free e) t m = on_value_grows m (eval globals t e) (λ v. free v t m) (λ v. free_grows v t m)
+effect_grows globals pick (statement.Lock op e) t m =
+    on_value_grows m (eval globals t e) (λ place. on_place place (λ b o. lock_at op b o t m))
+    (λ place. on_place_grows m place (λ b o. lock_at op b o t m) (λ b o. lock_grows op b o t m))
+effect_grows globals pick _ t m = tt
+
+after_grows : (m : List Block) (e : Effect) (fr : Frame) (cs : List Caller) → EffectGrows m e → StepGrows m (after_effect e fr cs)
+after_grows m (Goes t m') fr cs h = h
+after_grows m Waits fr cs h = tt
+after_grows m (Stuck c) fr cs h = tt
 
 give_grows : (v : Value) (cs : List Caller) (m : List Block) → StepGrows m (give v cs m)
 give_grows v [] m = tt
@@ -188,23 +203,7 @@ spawn_grows (Ok v) None fr cs m = tt
 spawn_grows (Err c) f fr cs m = tt
 
 act_grows : (p : Program) (pick : Bool) (s : TStmt-F TStmt) (fr : Frame) (cs : List Caller) (m : List Block) → StepGrows m (act p pick s fr cs m)
-act_grows p pick statement.Skip fr cs m = same m
-act_grows p pick (statement.Set x e) fr cs m =
-    effect_grows m (on_value (eval p.globals fr.temps e) (λ v. Goes (slice_set fr.temps x v) m)) fr cs (on_value_grows m (eval p.globals fr.temps e) (λ v. Goes (slice_set fr.temps x v) m) (λ v. same m))
-act_grows p pick (statement.Load x l) fr cs m =
-    effect_grows m (on_value (address p.globals fr.temps l) (λ v. load x v fr.temps m)) fr cs (on_value_grows m (address p.globals fr.temps l) (λ v. load x v fr.temps m) (λ v. load_grows x v fr.temps m))
-act_grows p pick (statement.Store l e) fr cs m =
-    effect_grows m (on_value (address p.globals fr.temps l) (λ place. on_value (eval p.globals fr.temps e) (λ v. store place v fr.temps m))) fr cs
-    (on_value_grows m (address p.globals fr.temps l) (λ place. on_value (eval p.globals fr.temps e) (λ v. store place v fr.temps m))
-    (λ place. on_value_grows m (eval p.globals fr.temps e) (λ v. store place v fr.temps m) (λ v. store_grows place v fr.temps m)))
 act_grows p pick (statement.Call x f es) fr cs m = call_grows (eval_all p.globals fr.temps es) (function p f) x fr cs m
-act_grows p pick (statement.Malloc x n) fr cs m = effect_grows m (malloc pick x n fr.temps m) fr cs (malloc_grows pick x n fr.temps m)
-act_grows p pick (statement.Free e) fr cs m =
-    effect_grows m (on_value (eval p.globals fr.temps e) (λ v. free v fr.temps m)) fr cs (on_value_grows m (eval p.globals fr.temps e) (λ v. free v fr.temps m) (λ v. free_grows v fr.temps m))
-act_grows p pick (statement.Lock op e) fr cs m =
-    effect_grows m (on_value (eval p.globals fr.temps e) (λ place. on_place place (λ b o. lock_at op b o fr.temps m))) fr cs
-    (on_value_grows m (eval p.globals fr.temps e) (λ place. on_place place (λ b o. lock_at op b o fr.temps m))
-    (λ place. on_place_grows m place (λ b o. lock_at op b o fr.temps m) (λ b o. lock_grows op b o fr.temps m)))
 act_grows p pick (statement.Spawn f e) fr cs m = spawn_grows (eval p.globals fr.temps e) (function p f) fr cs m
 act_grows p pick (statement.If c a b) fr cs m = test_grows (test p.globals fr.temps m c) a b fr cs m
 act_grows p pick (statement.Loop s) fr cs m = same m
@@ -212,6 +211,7 @@ act_grows p pick statement.Break fr cs m = break_grows fr.loops fr.temps cs m
 act_grows p pick statement.Continue fr cs m = continue_grows fr.loops fr.temps cs m
 act_grows p pick (statement.Return None) fr cs m = give_grows Undef cs m
 act_grows p pick (statement.Return (Some e)) fr cs m = return_grows (eval p.globals fr.temps e) cs m
+act_grows p pick s fr cs m = after_grows m (effect p.globals pick s fr.temps m) fr cs (effect_grows p.globals pick s fr.temps m)
 
 end_grows : (n : ℕ) (v : Value) (s : System) → TurnGrows s.memory (at_end n v s)
 end_grows zero v s = tt

@@ -1,6 +1,6 @@
 -- Expressions, one layer at a time.
 use Rattle.std.proofs.Common.{◌≡◌, ℕ, List, pos, Ok, Err, Result, ℤ, sym, ◌∙◌, ap}
-use Rattle.std.specs.Prelude.{map}
+use Rattle.std.specs.Prelude.{map, ◌%◌, ◌^◌}
 use Rattle.vd_clight.specs.declared.program.GlobalDef.{GlobalDef}
 use Rattle.vd_clight.specs.declared.syntax.UnOp.{UnOp}
 use Rattle.vd_clight.specs.declared.syntax.BinOp.{BinOp}
@@ -16,7 +16,7 @@ use Rattle.vd_machine.specs.Results.{part_moves}
 use Rattle.vd_machine.specs.declared.answer.Cause.{Cause}
 use Rattle.vd_machine.specs.declared.answer.Cause.TheVariants as cause
 
-pub eval-Const : (globals : List GlobalDef) (t : Temps) (n : ℕ) → eval globals t (Const n) ≡ Ok (Int n)
+pub eval-Const : (globals : List GlobalDef) (t : Temps) (n : ℕ) → eval globals t (Const n) ≡ Ok (Int (n % 2 ^ 32))
 unfolding eval
 eval-Const globals t n = rw (fold_out-TExpr _ _ _ _ _ _ (Const n), outs-Const n)
 

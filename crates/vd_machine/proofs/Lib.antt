@@ -12,6 +12,7 @@ pub mod Places
 pub mod Rivals
 pub mod Rooms
 pub mod Runs
+pub mod Simple
 pub mod Spawning
 pub mod Touching
 pub mod Turns

@@ -12,11 +12,11 @@ use Rattle.vd_mem.specs.Memory.{Block}
 use Rattle.vd_machine.specs.declared.answer.Cause.{Cause}
 use Rattle.vd_machine.specs.Allocation.{takes_memory, thread_takes_memory, is_spawn, thread_spawns}
 use Rattle.vd_machine.specs.Arithmetic.{Evaluated}
-use Rattle.vd_machine.specs.Evaluation.{Temps, eval, address, eval_all, test}
+use Rattle.vd_machine.specs.Evaluation.{Temps, eval, eval_all, test}
 use Rattle.vd_machine.specs.Kept.{step_of}
 use Rattle.vd_machine.specs.Run.{Turned, Next, Waiting, Resting, Finished, Failed, turn, turn_of, after_step, at_end}
-use Rattle.vd_machine.specs.Step.{Effect, Goes, Waits, Stuck, on_value, on_place, load, store, malloc, free, lock_at, Step, Moved, Forked, Blocked, Over, Wrong, give, after_effect, after_test, after_break, after_continue, after_return, after_call, act, step}
-use Rattle.vd_machine.specs.Thread.{Around, Frame, Caller, Thread, Ended, Running, System, assign, function, next}
+use Rattle.vd_machine.specs.Step.{Effect, Goes, Waits, Stuck, effect, Step, Moved, Forked, Blocked, Over, Wrong, give, after_effect, after_test, after_break, after_continue, after_return, after_call, act, step}
+use Rattle.vd_machine.specs.Thread.{Around, Frame, Caller, Thread, Ended, Running, System, function, next}
 
 -- a step that makes a thread is one of which something holds
 abbrev OnlyIf : Bool → Step → Type 0
@@ -65,16 +65,7 @@ of_true (Over v) = tt
 of_true (Wrong c) = tt
 
 of_act : (p : Program) (pick : Bool) (s : TStmt-F TStmt) (fr : Frame) (cs : List Caller) (m : List Block) → OnlyIf (is_spawn s) (act p pick s fr cs m)
-of_act p pick statement.Skip fr cs m = tt
-of_act p pick (statement.Set x e) fr cs m = of_effect false (on_value (eval p.globals fr.temps e) (λ v. Goes (assign fr.temps x v) m)) fr cs
-of_act p pick (statement.Load x l) fr cs m = of_effect false (on_value (address p.globals fr.temps l) (λ v. load x v fr.temps m)) fr cs
-of_act p pick (statement.Store l e) fr cs m =
-    of_effect false (on_value (address p.globals fr.temps l) (λ place. on_value (eval p.globals fr.temps e) (λ v. store place v fr.temps m))) fr cs
 of_act p pick (statement.Call x f es) fr cs m = of_call false (eval_all p.globals fr.temps es) (function p f) x fr cs m
-of_act p pick (statement.Malloc x n) fr cs m = of_effect false (malloc pick x n fr.temps m) fr cs
-of_act p pick (statement.Free e) fr cs m = of_effect false (on_value (eval p.globals fr.temps e) (λ v. free v fr.temps m)) fr cs
-of_act p pick (statement.Lock op e) fr cs m =
-    of_effect false (on_value (eval p.globals fr.temps e) (λ place. on_place place (λ b o. lock_at op b o fr.temps m))) fr cs
 of_act p pick (statement.Spawn f e) fr cs m = of_true (act p pick (statement.Spawn f e) fr cs m)
 of_act p pick (statement.If c x y) fr cs m = of_test false (test p.globals fr.temps m c) x y fr cs m
 of_act p pick (statement.Loop s) fr cs m = tt
@@ -82,6 +73,7 @@ of_act p pick statement.Break fr cs m = of_break false fr.loops fr.temps cs m
 of_act p pick statement.Continue fr cs m = of_continue false fr.loops fr.temps cs m
 of_act p pick (statement.Return None) fr cs m = of_give false Undef cs m
 of_act p pick (statement.Return (Some e)) fr cs m = of_return false (eval p.globals fr.temps e) cs m
+of_act p pick s fr cs m = of_effect false (effect p.globals pick s fr.temps m) fr cs
 
 -- a step that makes a thread is a spawn
 pub forked_spawns : (p : Program) (pick : Bool) (t : Thread) (m m' : List Block) (th new : Thread) → Forked th new m' ≡ step_of p pick t m → thread_spawns (Some t) ≡ true

@@ -1,5 +1,5 @@
 -- Values of expressions, in reading order. Memory is looked at by pointer tests alone.
-use Rattle.std.specs.Prelude.{ℕ, nat_le, Bool, true, false, not, cond, ◌&&◌, ◌==◌, List, [], ◌∷◌, slice_get, Option, None, Some, ℤ, pos, negsuc, ◌+ℤ◌, Result, Ok, Err}
+use Rattle.std.specs.Prelude.{ℕ, ◌%◌, ◌^◌, nat_le, Bool, true, false, not, cond, ◌&&◌, ◌==◌, List, [], ◌∷◌, slice_get, Option, None, Some, ℤ, pos, negsuc, ◌+ℤ◌, Result, Ok, Err}
 use Rattle.std.specs.List.{position}
 use Rattle.std.specs.Option.{unwrap_or}
 use Rattle.std.specs.Str.{bytes_eq}
@@ -77,9 +77,9 @@ part_layer (expression.Index k e) = on_ok e (λ v. on_int v (λ a. Ok (number k 
 abbrev pub place_layer : List GlobalDef → Temps → Lval-F (Result ℤ Cause) Evaluated Evaluated → Evaluated
 place_layer globals t l = on_ptr (root_value globals t l.root) (λ b o. moved b (pos o) l.path)
 
--- an expression; both operands are evaluated before the operation looks at them
+-- an expression; a number is taken modulo 2^32, and both operands are evaluated before the operation looks at them
 abbrev pub expression_layer : Temps → TExpr-F (Result ℤ Cause) Evaluated Evaluated → Evaluated
-expression_layer t (expression.Const n) = Ok (Int n)
+expression_layer t (expression.Const n) = Ok (Int (n % 2 ^ 32))
 expression_layer t (expression.Temp x) = Ok (temp t x)
 expression_layer t (expression.Addr l) = l
 expression_layer t (expression.Unary op k e) = on_ok e (λ v. on_int v (λ a. unary op k a))

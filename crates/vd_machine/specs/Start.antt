@@ -1,5 +1,5 @@
 -- The state in which a program starts.
-use Rattle.std.specs.Prelude.{◌-◌, List, [], ◌∷◌, ◌++◌, length, map, replicate, slice_get, Option, None, Some, false, true}
+use Rattle.std.specs.Prelude.{◌-◌, ◌%◌, ◌^◌, List, [], ◌∷◌, ◌++◌, length, map, replicate, slice_get, Option, None, Some, false, true}
 use Rattle.vd_clight.specs.declared.program.Program.{Program}
 use Rattle.vd_clight.specs.declared.program.GlobalDef.{GlobalDef}
 use Rattle.vd_clight.specs.declared.program.Init.{Init}
@@ -14,9 +14,9 @@ use Rattle.vd_machine.specs.Evaluation.{global}
 use Rattle.vd_machine.specs.Step.{room}
 use Rattle.vd_machine.specs.Thread.{Thread, Running, System, entry}
 
--- an initial value
+-- an initial value; a number is taken modulo 2^32
 abbrev pub init_value : List GlobalDef → Init → Value
-init_value globals (initial.Int n) = Int n
+init_value globals (initial.Int n) = Int (n % 2 ^ 32)
 init_value globals (initial.Addr name) = global globals name
 
 -- the cells of a global: its initial values, then zeros

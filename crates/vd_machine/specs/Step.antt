@@ -1,5 +1,6 @@
 -- One step of one thread: it runs the next statement, its expressions included.
 use Rattle.std.specs.Prelude.{ℕ, zero, suc, max, Bool, true, false, List, [], ◌∷◌, ◌++◌, length, Option, None, Some, Result, Ok, Err}
+use Rattle.vd_clight.specs.declared.program.GlobalDef.{GlobalDef}
 use Rattle.vd_clight.specs.declared.program.Program.{Program}
 use Rattle.vd_clight.specs.declared.typed.TypedFn.{TypedFn}
 use Rattle.vd_clight.specs.declared.typed.TStmt.{TStmt, TStmt-F}
@@ -17,7 +18,7 @@ use Rattle.vd_machine.specs.Arithmetic.{Evaluated}
 use Rattle.vd_machine.specs.Evaluation.{Temps, eval, address, eval_all, test}
 use Rattle.vd_machine.specs.Thread.{Around, Frame, Caller, Thread, Running, Focus, assign, assign_to, entry, function, next}
 
--- what a statement without a jump does to temporaries and memory
+-- what a simple statement does to temporaries and memory
 pub data Effect : Type 0 where
   Goes : Temps → List Block → Effect
   Waits : Effect
@@ -81,6 +82,28 @@ lock_at lock.Acquire b o t m = on_lock (cell_at m b o) (Goes t (put m b o cell.H
 lock_at lock.Release b o t m = on_lock (cell_at m b o) (Stuck cause.NotHeld) (Goes t (put m b o cell.Free))
 lock_at lock.Free b o t m = on_lock (cell_at m b o) (Stuck cause.NotHeld) (Goes t (put m b o (cell.Data Undef)))
 
+-- a statement that is all done by one effect on temporaries and memory; every other one says where the thread goes on
+abbrev pub IsSimple : TStmt-F TStmt → Type 0
+IsSimple statement.Skip = Unit {0}
+IsSimple (statement.Set x e) = Unit {0}
+IsSimple (statement.Load x l) = Unit {0}
+IsSimple (statement.Store l e) = Unit {0}
+IsSimple (statement.Malloc x n) = Unit {0}
+IsSimple (statement.Free e) = Unit {0}
+IsSimple (statement.Lock op e) = Unit {0}
+IsSimple _ = ⊥
+
+-- the effect of a simple statement; no other one is asked for its effect
+abbrev pub effect : List GlobalDef → Bool → TStmt-F TStmt → Temps → List Block → Effect
+effect globals pick statement.Skip t m = Goes t m
+effect globals pick (statement.Set x e) t m = on_value (eval globals t e) (λ v. Goes (assign t x v) m)
+effect globals pick (statement.Load x l) t m = on_value (address globals t l) (λ v. load x v t m)
+effect globals pick (statement.Store l e) t m = on_value (address globals t l) (λ place. on_value (eval globals t e) (λ v. store place v t m))
+effect globals pick (statement.Malloc x n) t m = malloc pick x n t m
+effect globals pick (statement.Free e) t m = on_value (eval globals t e) (λ v. free v t m)
+effect globals pick (statement.Lock op e) t m = on_value (eval globals t e) (λ place. on_place place (λ b o. lock_at op b o t m))
+effect globals pick _ t m = Stuck cause.Undef
+
 -- a step of a running thread
 pub data Step : Type 0 where
   Moved : Thread → List Block → Step
@@ -133,18 +156,9 @@ after_spawn (Ok v) (Some f) fr cs m = Forked (Running fr cs) (Running (entry f (
 after_spawn (Ok v) None fr cs m = Wrong cause.Undef
 after_spawn (Err c) f fr cs m = Wrong c
 
--- a statement, by what it is; the frame is that without the statement
+-- a statement, by what it is: one that says where the thread goes on, or else a simple one; the frame is that without the statement
 abbrev pub act : Program → Bool → TStmt-F TStmt → Frame → List Caller → List Block → Step
-act p pick statement.Skip fr cs m = after_effect (Goes fr.temps m) fr cs
-act p pick (statement.Set x e) fr cs m = after_effect (on_value (eval p.globals fr.temps e) (λ v. Goes (assign fr.temps x v) m)) fr cs
-act p pick (statement.Load x l) fr cs m = after_effect (on_value (address p.globals fr.temps l) (λ v. load x v fr.temps m)) fr cs
-act p pick (statement.Store l e) fr cs m =
-    after_effect (on_value (address p.globals fr.temps l) (λ place. on_value (eval p.globals fr.temps e) (λ v. store place v fr.temps m))) fr cs
 act p pick (statement.Call x f es) fr cs m = after_call (eval_all p.globals fr.temps es) (function p f) x fr cs m
-act p pick (statement.Malloc x n) fr cs m = after_effect (malloc pick x n fr.temps m) fr cs
-act p pick (statement.Free e) fr cs m = after_effect (on_value (eval p.globals fr.temps e) (λ v. free v fr.temps m)) fr cs
-act p pick (statement.Lock op e) fr cs m =
-    after_effect (on_value (eval p.globals fr.temps e) (λ place. on_place place (λ b o. lock_at op b o fr.temps m))) fr cs
 act p pick (statement.Spawn f e) fr cs m = after_spawn (eval p.globals fr.temps e) (function p f) fr cs m
 act p pick (statement.If c a b) fr cs m = after_test (test p.globals fr.temps m c) a b fr cs m
 act p pick (statement.Loop s) fr cs m = after_loop s fr cs m
@@ -152,6 +166,7 @@ act p pick statement.Break fr cs m = after_break fr.loops fr.temps cs m
 act p pick statement.Continue fr cs m = after_continue fr.loops fr.temps cs m
 act p pick (statement.Return None) fr cs m = give Undef cs m
 act p pick (statement.Return (Some e)) fr cs m = after_return (eval p.globals fr.temps e) cs m
+act p pick s fr cs m = after_effect (effect p.globals pick s fr.temps m) fr cs
 
 abbrev pub act_at : Program → Bool → Focus → List Caller → List Block → Step
 act_at p pick f cs m = act p pick f.statement f.frame cs m

@@ -1,9 +1,9 @@
 -- What fits a memory.
-use Rattle.std.specs.Prelude.{◌≡◌, ℕ, ◌≤◌, max, List, length, slice_get, Option, Some}
+use Rattle.std.specs.Prelude.{◌≡◌, ℕ, ◌≤◌, max, List, Option, Some}
 use Rattle.vd_mem.specs.declared.value.Value.{Value}
 use Rattle.vd_mem.specs.declared.value.Cell.{Cell}
 use Rattle.vd_mem.specs.declared.value.Cell.TheVariants as cell
-use Rattle.vd_mem.specs.Memory.{Block, cell_at, heap_length, cell_limit}
+use Rattle.vd_mem.specs.Memory.{Block, cell_at, heap_length, IsWell}
 use Rattle.vd_mem.specs.Locks.{IsLock}
 use Rattle.vd_meaning.specs.Values.{Val, Invariant, val_of}
 use Rattle.vd_meaning.specs.Shares.{Kind, Data, Lock, Hold, Token, Shares}
@@ -38,10 +38,6 @@ pub record FitsCell (c : Option Cell) (heap : Option ℕ) (o : ℕ) (f : Kind �
 -- shares fit a memory
 abbrev pub Fits : List Block → Shares → Type 0
 Fits m r = (b o : ℕ) → FitsCell (cell_at m b o) (heap_length m b) o (r b o)
-
--- no block has more cells than the limit, as in every memory of a run
-abbrev pub IsWell : List Block → Type 0
-IsWell m = (b : ℕ) (x : Block) → slice_get m b ≡ Some x → length x.cells ≤ cell_limit
 
 -- shares that fit some memory
 abbrev pub Valid : Shares → Type 0

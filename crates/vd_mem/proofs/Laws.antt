@@ -2,6 +2,8 @@
 use Rattle.std.proofs.Common.{◌≡◌, ◌≢◌, ℕ, zero, suc, ◌<◌, ◌≤◌, Bool, true, false, ◌&&◌, cond, List, [], ◌∷◌, ◌++◌, length, get_or, slice_set, Option, Some, None, refl, sym, ◌∙◌, ap, subst, inl, inr, arith}
 use Rattle.std.specs.Prelude.{IsSome, ◌⊎◌, slice_get, replicate}
 use Rattle.std.specs.Option.{option_map}
+use Rattle.std.proofs.lemmas.Bool.{cases_eq}
+use Rattle.std.proofs.lemmas.List.{length-replicate, length-set}
 use Rattle.vd_mem.specs.declared.value.Value.{Value}
 use Rattle.vd_mem.specs.declared.value.Cell.{Cell}
 use Rattle.vd_mem.specs.declared.value.Cell.TheVariants.{Data}
@@ -44,6 +46,14 @@ cell_at-put_offset m b o p c ne = ap (λ x. cell_of x p) (slice_get-changed m b 
 pub cell_at-put_block : (m : List Block) (b d o p : ℕ) (c : Cell) → d ≢ b → cell_at (put m b o c) d p ≡ cell_at m d p
 cell_at-put_block m b d o p c ne = ap (λ x. cell_of x p) (slice_get-changed_other m b d (λ x. block_put x o c) ne)
 
+-- any cell at another place
+pub cell_at-put_other : (m : List Block) (b o : ℕ) (c : Cell) (d p : ℕ) → ((d ≡ b) × (p ≡ o) → ⊥) → cell_at (put m b o c) d p ≡ cell_at m d p
+cell_at-put_other m b o c d p ne = by (cases_eq d b)
+  where
+    by : (d ≡ b) ⊎ (d ≡ b → ⊥) → cell_at (put m b o c) d p ≡ cell_at m d p
+    by (inl e) = subst (λ k. cell_at (put m b o c) k p ≡ cell_at m k p) (sym e) (cell_at-put_offset m b o p c (λ f. ne (e, f)))
+    by (inr n) = cell_at-put_block m b d o p c n
+
 -- a freed block has no live cell
 pub cell_at-freed_here : (m : List Block) (b o : ℕ) → cell_at (freed m b) b o ≡ None
 cell_at-freed_here m b o = ap (λ x. cell_of x o) (slice_get-changed m b block_freed) ∙ at (slice_get m b)
@@ -85,9 +95,19 @@ cell_at-grown_past m n o v heap h = ap (λ x. cell_of x o) (at_end m (new_block 
 pub cell_at-grown_other : (m : List Block) (n b o : ℕ) (v : Value) (heap : Bool) → b ≢ length m → cell_at (grown m n v heap) b o ≡ cell_at m b o
 cell_at-grown_other m n b o v heap ne = ap (λ x. cell_of x o) (before_end m (new_block n v heap) b ne)
 
--- the lengths of live heap blocks
-pub heap_length-put : (m : List Block) (b d o : ℕ) (c : Cell) → d ≢ b → heap_length (put m b o c) d ≡ heap_length m d
-heap_length-put m b d o c ne = ap heap_length_of (slice_get-changed_other m b d (λ x. block_put x o c) ne)
+-- the lengths of live heap blocks; a cell that is put changes none
+pub heap_length-put : (m : List Block) (b d o : ℕ) (c : Cell) → heap_length (put m b o c) d ≡ heap_length m d
+heap_length-put m b d o c = by (cases_eq d b)
+  where
+    same : (x : Option Block) → heap_length_of (option_map (λ y. block_put y o c) x) ≡ heap_length_of x
+    same None = refl
+    same (Some x) = ap (λ n. cond (x.is_live && x.is_heap) (Some n) None) (length-set x.cells o c)
+
+    by : (d ≡ b) ⊎ (d ≡ b → ⊥) → heap_length (put m b o c) d ≡ heap_length m d
+    by (inl e) =
+        subst (λ k. heap_length (put m b o c) k ≡ heap_length m k) (sym e)
+        (ap heap_length_of (slice_get-changed m b (λ x. block_put x o c)) ∙ same (slice_get m b))
+    by (inr n) = ap heap_length_of (slice_get-changed_other m b d (λ x. block_put x o c) n)
 
 pub heap_length-freed_here : (m : List Block) (b : ℕ) → heap_length (freed m b) b ≡ None
 heap_length-freed_here m b = ap heap_length_of (slice_get-changed m b block_freed) ∙ at (slice_get m b)
@@ -98,6 +118,10 @@ heap_length-freed_here m b = ap heap_length_of (slice_get-changed m b block_free
 
 pub heap_length-freed_other : (m : List Block) (b d : ℕ) → d ≢ b → heap_length (freed m b) d ≡ heap_length m d
 heap_length-freed_other m b d ne = ap heap_length_of (slice_get-changed_other m b d block_freed ne)
+
+-- a new block that `malloc` made has the cells that were asked for
+pub heap_length-grown_new : (m : List Block) (n : ℕ) (v : Value) → heap_length (grown m n v true) (length m) ≡ Some n
+heap_length-grown_new m n v = ap heap_length_of (at_end m (new_block n v true)) ∙ ap Some (length-replicate n (Data v))
 
 pub heap_length-grown_other : (m : List Block) (n b : ℕ) (v : Value) (heap : Bool) → b ≢ length m → heap_length (grown m n v heap) b ≡ heap_length m b
 heap_length-grown_other m n b v heap ne = ap heap_length_of (before_end m (new_block n v heap) b ne)

@@ -2,3 +2,4 @@ pub mod Blocks
 pub mod Laws
 pub mod Lists
 pub mod Memories
+pub mod Well

@@ -1,6 +1,6 @@
 -- Memory: a list of separate blocks, as in CompCert. A block's number is its place in the list, so no number is used twice.
 -- The definitions have whole lists of cells; nothing here says how cells are kept.
-use Rattle.std.specs.Prelude.{ℕ, List, [], ◌∷◌, ◌++◌, length, replicate, slice_get, slice_set, Option, None, Some, Bool, true, false, cond, ◌&&◌}
+use Rattle.std.specs.Prelude.{◌≡◌, ◌≤◌, ℕ, List, [], ◌∷◌, ◌++◌, length, replicate, slice_get, slice_set, Option, None, Some, Bool, true, false, cond, ◌&&◌}
 use Rattle.std.specs.List.{list_all}
 use Rattle.vd_mem.specs.declared.value.Value.{Value}
 use Rattle.vd_mem.specs.declared.value.Cell.{Cell}
@@ -80,3 +80,7 @@ heap_length_of (Some x) = heap_cells x
 
 abbrev pub heap_length : List Block → ℕ → Option ℕ
 heap_length m b = heap_length_of (slice_get m b)
+
+-- no block has more cells than the limit, as in every memory of a run
+abbrev pub IsWell : List Block → Type 0
+IsWell m = (b : ℕ) (x : Block) → slice_get m b ≡ Some x → length x.cells ≤ cell_limit

@@ -3,12 +3,13 @@ use Rattle.std.proofs.Common.{◌≡◌, ℕ, ◌<◌, ◌≤◌, Bool, true, fa
 use Rattle.std.proofs.lemmas.List.{take_all}
 use Rattle.std.proofs.lemmas.List.Folds.{list_all_at}
 use Rattle.std.specs.List.{list_all}
+use Rattle.vd_clight.specs.declared.program.GlobalDef.{GlobalDef}
 use Rattle.vd_clight.specs.declared.program.Program.{Program}
 use Rattle.vd_clight.specs.declared.typed.Lval.{Lval}
 use Rattle.vd_clight.specs.declared.typed.Part.{Part}
 use Rattle.vd_clight.specs.declared.typed.TExpr.{TExpr}
 use Rattle.vd_clight.specs.declared.typed.TStmt.{TStmt, Call, Spawn}
-use Rattle.vd_clight.specs.Whole.{is_whole_expression, is_whole_place, is_whole_root, is_whole_statement, is_whole_target, takes}
+use Rattle.vd_clight.specs.Whole.{is_whole_expression, is_whole_global, is_whole_place, is_whole_root, is_whole_statement, is_whole_target, takes}
 use Rattle.vd_whole.proofs.Layers.{whole-place, whole-Call, whole-Spawn}
 use Rattle.vd_whole.specs.Names.{is_whole_part}
 
@@ -60,3 +61,6 @@ module _ (p : Program) (n : ℕ) (s : TStmt) (f : List ℕ) (e : TExpr) (is : s 
 
   pub spawn_fails : takes p f 1 ≡ false → false ≡ is_whole_statement p n s
   spawn_fails taken = first_fails (takes p f 1) (is_whole_expression p n e) taken ∙ (sym (whole-Spawn p n f e) ∙ sym (ap (is_whole_statement p n) is))
+
+pub global_fails : (p : Program) (i : ℕ) (g : GlobalDef) → i < length p.globals → g ≡ get_or p.globals i g → is_whole_global p g ≡ false → false ≡ list_all (is_whole_global p) p.globals
+global_fails p i g within at fails = sym (list_all_at (is_whole_global p) p.globals i g within (sym (ap (is_whole_global p) at) ∙ fails))

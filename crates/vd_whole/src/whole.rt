@@ -228,6 +228,9 @@ fn is_whole_global(names: &Names<'_>, g: &GlobalDef) -> bool
     requires { AreNames names.now }
     ensures { result ≡ whole.is_whole_global names.now.program.now g.now }
 {
+    if !names.has_global(g.name.as_bytes()) {
+        return false;
+    }
     if g.cells > MOST_CELLS || g.init.len() > g.cells as usize {
         return false;
     }
