@@ -8,11 +8,32 @@ ghost use Rattle.vd_logic_grammar.specs.Read.{read};
 use crate::numbering::numbered;
 use crate::steps::steps;
 use std::alloc::Global;
+use std::mem;
 use vd_assertion_text::items;
 use vd_base::List;
 use vd_grammar::Stop;
 use vd_logic::{Item, Step};
 use vd_logic_grammar::{Kind, Tokens};
+
+/// Steps, read by a cursor of their own, so that the readers below owe nothing of the tokens that they leave where memory
+/// fails: none is left then.
+fn own_steps(alloc: Global, tokens: &mut Tokens<'_>) -> Result<List<Step>, Stop>
+    ensures reads { Reads (read Phrase.Steps tokens.old) result tokens.new }
+    ensures no_longer { length tokens.new ≤ length tokens.old }
+{
+    let mut cursor = mem::replace(tokens, Tokens::new(&[]));
+    match steps(alloc, &mut cursor) {
+        Ok(found) => {
+            *tokens = cursor;
+            Ok(found)
+        }
+        Err(Stop::Refused) => {
+            *tokens = cursor;
+            Err(Stop::Refused)
+        }
+        Err(Stop::Memory) => Err(Stop::Memory),
+    }
+}
 
 /// The steps of a section, numbered from 1, and the line `end`.
 #[tactic(auto, using(vd_logic_grammar::specs::Laws::read_is))]
@@ -20,7 +41,7 @@ pub fn script_section(alloc: Global, tokens: &mut Tokens<'_>) -> Result<List<Ste
     ensures reads { Reads (read Phrase.ScriptSection tokens.old) result tokens.new }
     ensures no_longer { length tokens.new ≤ length tokens.old }
 {
-    let found = steps(alloc, tokens)?;
+    let found = own_steps(alloc, tokens)?;
     tokens.take(Kind::EndLine)?;
     Ok(numbered(alloc, found)?)
 }
@@ -37,7 +58,7 @@ pub fn init_section(
     tokens.take(Kind::Sep)?;
     tokens.take(Kind::LeftParen)?;
     let items = items(alloc, tokens)?;
-    let found = steps(alloc, tokens)?;
+    let found = own_steps(alloc, tokens)?;
     tokens.take(Kind::EndLine)?;
     let steps = numbered(alloc, found)?;
     Ok((items, steps))

@@ -1,101 +1,116 @@
 //! Steps with their blocks.
 
-ghost use Rattle.std.specs.Prelude.{◌≡◌, ◌<◌, ◌≤◌, length, OnOk};
+ghost use Rattle.std.specs.Prelude.{◌≡◌, ◌<◌, ◌≤◌, [], ◌∷◌, length, OnOk};
+ghost use Rattle.vd_grammar.specs.Grammar.{part};
 ghost use Rattle.vd_grammar.specs.Outcome.{with_front};
-ghost use Rattle.vd_grammar.specs.Reads.{Reads};
-ghost use Rattle.vd_logic_grammar.specs.Grammar.{Phrase, Rule};
+ghost use Rattle.vd_grammar.specs.Reading.{row};
+ghost use Rattle.vd_grammar.specs.Reads.{Reads, ReadsBy};
+ghost use Rattle.vd_logic_grammar.specs.Choice.{grammar};
+ghost use Rattle.vd_logic_grammar.specs.Grammar.{Phrase, Rule, token};
+ghost use Rattle.vd_logic_grammar.specs.Lexeme.{lexeme_of};
 ghost use Rattle.vd_logic_grammar.specs.Read.{read, read_rule};
 
-use crate::call::{acquire, call, free, free_lock, make_lock, release, spawn};
-use crate::certificate::by;
-use crate::fact::{absurd, fold, have, law, rewrite, subst};
-use crate::flow::{break_loop, continue_loop, fall, load, return_value, set, skip, store};
-use crate::heap::{agree, apart, bounds, cut, forget, glue, meet, name, share, unshare};
-use crate::parts::{as_names, at, names};
 use std::alloc::Global;
 use vd_assertion_text::{claim, prop};
-use vd_base::{List, hold};
+use vd_base::{List, Name, hold};
 use vd_grammar::Stop;
 use vd_logic::{Block, Step, StepNode};
-use vd_logic_grammar::{Class, Kind, Tokens, name_of};
+use vd_logic_grammar::{Class, Kind, Token, Tokens, name_of};
+use vd_step_text::call::{acquire, call, free, free_lock, make_lock, release, spawn};
+use vd_step_text::certificate::by;
+use vd_step_text::fact::{absurd, fold, have, law, rewrite, subst};
+use vd_step_text::flow::{break_loop, continue_loop, fall, load, return_value, set, skip, store};
+use vd_step_text::heap::{item_step, last_step};
+use vd_step_text::parts::{as_names, at, names};
+
+/// The two blocks of a step, and its last token. The token is given too, so that the clause says what the whole row reads.
+#[cycle(step)]
+fn two_blocks_end<'a>(
+    alloc: Global,
+    tokens: &mut Tokens<'a>,
+) -> Result<(Block, Block, Token<'a>), Stop>
+    ensures reads { ReadsBy (λ it. (it.0, (it.1, (lexeme_of it.2, tt)))) (row grammar read (part Phrase.Block_ ∷ part Phrase.Block_ ∷ token Kind.Semicolon ∷ []) tokens.old) result tokens.new }
+    ensures no_longer { OnOk result (length tokens.new ≤ length tokens.old) }
+{
+    let first = hold(block(alloc, tokens)?);
+    let second = hold(block(alloc, tokens)?);
+    let last = tokens.take(Kind::Semicolon)?;
+    Ok((first.out(), second.out(), last))
+}
+
+/// The names that a step binds, its block, and its last token.
+#[cycle(step)]
+fn block_end<'a>(
+    alloc: Global,
+    tokens: &mut Tokens<'a>,
+) -> Result<(List<Name>, Block, Token<'a>), Stop>
+    ensures reads { ReadsBy (λ it. (it.0, (it.1, (lexeme_of it.2, tt)))) (row grammar read (part Phrase.As ∷ part Phrase.Block_ ∷ token Kind.Semicolon ∷ []) tokens.old) result tokens.new }
+    ensures no_longer { OnOk result (length tokens.new ≤ length tokens.old) }
+{
+    let names = as_names(alloc, tokens)?;
+    let inner = hold(block(alloc, tokens)?);
+    let last = tokens.take(Kind::Semicolon)?;
+    Ok((names, inner.out(), last))
+}
 
 #[cycle(step)]
 fn branches(alloc: Global, tokens: &mut Tokens<'_>) -> Result<StepNode, Stop>
     ensures reads { Reads (read_rule Rule.if_step tokens.old) result tokens.new }
-    ensures no_longer { length tokens.new ≤ length tokens.old }
     ensures shorter { OnOk result (length tokens.new < length tokens.old) }
 {
     tokens.take(Kind::If)?;
     let items = at(alloc, tokens)?;
     let proofs = by(alloc, tokens)?;
-    let first = hold(block(alloc, tokens)?);
-    let second = hold(block(alloc, tokens)?);
-    tokens.take(Kind::Semicolon)?;
-    Ok(StepNode::If(items, proofs, first.out(), second.out()))
+    let (first, second, _) = two_blocks_end(alloc, tokens)?;
+    Ok(StepNode::If(items, proofs, first, second))
 }
 
 #[cycle(step)]
 fn repeats(alloc: Global, tokens: &mut Tokens<'_>) -> Result<StepNode, Stop>
     ensures reads { Reads (read_rule Rule.while_step tokens.old) result tokens.new }
-    ensures no_longer { length tokens.new ≤ length tokens.old }
     ensures shorter { OnOk result (length tokens.new < length tokens.old) }
 {
     tokens.take(Kind::While)?;
     let invariant = hold(claim(alloc, tokens)?);
     let behind = hold(claim(alloc, tokens)?);
     let names = as_names(alloc, tokens)?;
-    let first = hold(block(alloc, tokens)?);
-    let second = hold(block(alloc, tokens)?);
-    tokens.take(Kind::Semicolon)?;
-    Ok(StepNode::While(
-        invariant.out(),
-        behind.out(),
-        names,
-        first.out(),
-        second.out(),
-    ))
+    let (first, second, _) = two_blocks_end(alloc, tokens)?;
+    Ok(StepNode::While(invariant.out(), behind.out(), names, first, second))
 }
 
 #[cycle(step)]
 fn ends_at(alloc: Global, tokens: &mut Tokens<'_>) -> Result<StepNode, Stop>
     ensures reads { Reads (read_rule Rule.block_step tokens.old) result tokens.new }
-    ensures no_longer { length tokens.new ≤ length tokens.old }
     ensures shorter { OnOk result (length tokens.new < length tokens.old) }
 {
     tokens.take(Kind::Block)?;
     let count = tokens.index()?;
     let assertion = hold(claim(alloc, tokens)?);
-    let names = as_names(alloc, tokens)?;
-    let inner = hold(block(alloc, tokens)?);
-    tokens.take(Kind::Semicolon)?;
-    Ok(StepNode::Block(count.value as u32, assertion.out(), names, inner.out()))
+    let (names, inner, _) = block_end(alloc, tokens)?;
+    Ok(StepNode::Block(count.value as u32, assertion.out(), names, inner))
 }
 
 #[cycle(step)]
 fn pose(alloc: Global, tokens: &mut Tokens<'_>) -> Result<StepNode, Stop>
     ensures reads { Reads (read_rule Rule.pose_step tokens.old) result tokens.new }
-    ensures no_longer { length tokens.new ≤ length tokens.old }
     ensures shorter { OnOk result (length tokens.new < length tokens.old) }
 {
     tokens.take(Kind::Pose)?;
     let assertion = hold(claim(alloc, tokens)?);
-    let names = as_names(alloc, tokens)?;
-    let inner = hold(block(alloc, tokens)?);
-    tokens.take(Kind::Semicolon)?;
-    Ok(StepNode::Pose(assertion.out(), names, inner.out()))
+    let (names, inner, _) = block_end(alloc, tokens)?;
+    Ok(StepNode::Pose(assertion.out(), names, inner))
 }
 
 #[cycle(step)]
 fn allocates(alloc: Global, tokens: &mut Tokens<'_>) -> Result<StepNode, Stop>
     ensures reads { Reads (read_rule Rule.malloc_step tokens.old) result tokens.new }
-    ensures no_longer { length tokens.new ≤ length tokens.old }
     ensures shorter { OnOk result (length tokens.new < length tokens.old) }
 {
     tokens.take(Kind::Malloc)?;
     let name = tokens.name()?;
-    let first = hold(block(alloc, tokens)?);
-    let second = hold(block(alloc, tokens)?);
-    tokens.take(Kind::Semicolon)?;
+    let (first, second, _) = two_blocks_end(alloc, tokens)?;
+    let first = hold(first);
+    let second = hold(second);
     let name = name_of(alloc, name)?;
     Ok(StepNode::Malloc(name, first.out(), second.out()))
 }
@@ -103,7 +118,6 @@ fn allocates(alloc: Global, tokens: &mut Tokens<'_>) -> Result<StepNode, Stop>
 #[cycle(step)]
 fn unfold(alloc: Global, tokens: &mut Tokens<'_>) -> Result<StepNode, Stop>
     ensures reads { Reads (read_rule Rule.unfold_step tokens.old) result tokens.new }
-    ensures no_longer { length tokens.new ≤ length tokens.old }
     ensures shorter { OnOk result (length tokens.new < length tokens.old) }
 {
     tokens.take(Kind::Unfold)?;
@@ -116,22 +130,18 @@ fn unfold(alloc: Global, tokens: &mut Tokens<'_>) -> Result<StepNode, Stop>
 #[cycle(step)]
 fn split(alloc: Global, tokens: &mut Tokens<'_>) -> Result<StepNode, Stop>
     ensures reads { Reads (read_rule Rule.split_step tokens.old) result tokens.new }
-    ensures no_longer { length tokens.new ≤ length tokens.old }
     ensures shorter { OnOk result (length tokens.new < length tokens.old) }
 {
     tokens.take(Kind::Split)?;
     let fact = hold(prop(alloc, tokens)?);
-    let first = hold(block(alloc, tokens)?);
-    let second = hold(block(alloc, tokens)?);
-    tokens.take(Kind::Semicolon)?;
-    Ok(StepNode::Split(fact.out(), first.out(), second.out()))
+    let (first, second, _) = two_blocks_end(alloc, tokens)?;
+    Ok(StepNode::Split(fact.out(), first, second))
 }
 
 #[cycle(step)]
 #[tactic(auto, using(vd_logic_grammar::specs::Laws::read_is))]
 fn flow_step(alloc: Global, tokens: &mut Tokens<'_>) -> Result<StepNode, Stop>
     ensures reads { Reads (read Phrase.FlowStep tokens.old) result tokens.new }
-    ensures no_longer { length tokens.new ≤ length tokens.old }
     ensures shorter { OnOk result (length tokens.new < length tokens.old) }
 {
     if tokens.sees(Class::One(Kind::Skip)) {
@@ -153,7 +163,6 @@ fn flow_step(alloc: Global, tokens: &mut Tokens<'_>) -> Result<StepNode, Stop>
 #[tactic(auto, using(vd_logic_grammar::specs::Laws::read_is))]
 fn leaving_step(alloc: Global, tokens: &mut Tokens<'_>) -> Result<StepNode, Stop>
     ensures reads { Reads (read Phrase.LeavingStep tokens.old) result tokens.new }
-    ensures no_longer { length tokens.new ≤ length tokens.old }
     ensures shorter { OnOk result (length tokens.new < length tokens.old) }
 {
     if tokens.sees(Class::One(Kind::Break)) {
@@ -175,7 +184,6 @@ fn leaving_step(alloc: Global, tokens: &mut Tokens<'_>) -> Result<StepNode, Stop
 #[tactic(auto, using(vd_logic_grammar::specs::Laws::read_is))]
 fn call_step(alloc: Global, tokens: &mut Tokens<'_>) -> Result<StepNode, Stop>
     ensures reads { Reads (read Phrase.CallStep tokens.old) result tokens.new }
-    ensures no_longer { length tokens.new ≤ length tokens.old }
     ensures shorter { OnOk result (length tokens.new < length tokens.old) }
 {
     if tokens.sees(Class::One(Kind::Call)) {
@@ -201,7 +209,6 @@ fn call_step(alloc: Global, tokens: &mut Tokens<'_>) -> Result<StepNode, Stop>
 #[tactic(auto, using(vd_logic_grammar::specs::Laws::read_is))]
 fn fact_step(alloc: Global, tokens: &mut Tokens<'_>) -> Result<StepNode, Stop>
     ensures reads { Reads (read Phrase.FactStep tokens.old) result tokens.new }
-    ensures no_longer { length tokens.new ≤ length tokens.old }
     ensures shorter { OnOk result (length tokens.new < length tokens.old) }
 {
     if tokens.sees(Class::One(Kind::Fold)) {
@@ -223,49 +230,10 @@ fn fact_step(alloc: Global, tokens: &mut Tokens<'_>) -> Result<StepNode, Stop>
     }
 }
 
-#[tactic(auto, using(vd_logic_grammar::specs::Laws::read_is))]
-fn item_step(alloc: Global, tokens: &mut Tokens<'_>) -> Result<StepNode, Stop>
-    ensures reads { Reads (read Phrase.ItemStep tokens.old) result tokens.new }
-    ensures no_longer { length tokens.new ≤ length tokens.old }
-    ensures shorter { OnOk result (length tokens.new < length tokens.old) }
-{
-    if tokens.sees(Class::One(Kind::Cut)) {
-        cut(alloc, tokens)
-    } else if tokens.sees(Class::One(Kind::Glue)) {
-        glue(tokens)
-    } else if tokens.sees(Class::One(Kind::Share)) {
-        share(alloc, tokens)
-    } else if tokens.sees(Class::One(Kind::Unshare)) {
-        unshare(alloc, tokens)
-    } else if tokens.sees(Class::One(Kind::Agree)) {
-        agree(alloc, tokens)
-    } else if tokens.sees(Class::One(Kind::Bounds)) {
-        bounds(alloc, tokens)
-    } else {
-        apart(alloc, tokens)
-    }
-}
-
-#[tactic(auto, using(vd_logic_grammar::specs::Laws::read_is))]
-fn last_step(alloc: Global, tokens: &mut Tokens<'_>) -> Result<StepNode, Stop>
-    ensures reads { Reads (read Phrase.LastStep tokens.old) result tokens.new }
-    ensures no_longer { length tokens.new ≤ length tokens.old }
-    ensures shorter { OnOk result (length tokens.new < length tokens.old) }
-{
-    if tokens.sees(Class::One(Kind::Forget)) {
-        forget(alloc, tokens)
-    } else if tokens.sees(Class::One(Kind::Meet)) {
-        meet(alloc, tokens)
-    } else {
-        name(alloc, tokens)
-    }
-}
-
 #[cycle(step)]
 #[tactic(auto, using(vd_logic_grammar::specs::Laws::read_is))]
 fn step(alloc: Global, tokens: &mut Tokens<'_>) -> Result<StepNode, Stop>
     ensures reads { Reads (read Phrase.Step_ tokens.old) result tokens.new }
-    ensures no_longer { length tokens.new ≤ length tokens.old }
     ensures shorter { OnOk result (length tokens.new < length tokens.old) }
 {
     if tokens.sees(Class::FlowWord) {
@@ -288,7 +256,7 @@ fn step(alloc: Global, tokens: &mut Tokens<'_>) -> Result<StepNode, Stop>
 #[tactic(auto, using(vd_logic_grammar::specs::Laws::read_is, vd_grammar::specs::Loops::fronts))]
 pub(crate) fn steps(alloc: Global, tokens: &mut Tokens<'_>) -> Result<List<Step>, Stop>
     ensures reads { Reads (read Phrase.Steps tokens.old) result tokens.new }
-    ensures no_longer { length tokens.new ≤ length tokens.old }
+    ensures no_longer { OnOk result (length tokens.new ≤ length tokens.old) }
 {
     let mut found = List::new(alloc);
     'found: while tokens.sees(Class::StepWord) {
@@ -302,7 +270,6 @@ pub(crate) fn steps(alloc: Global, tokens: &mut Tokens<'_>) -> Result<List<Step>
 #[tactic(auto, using(vd_logic_grammar::specs::Laws::read_is))]
 fn block(alloc: Global, tokens: &mut Tokens<'_>) -> Result<Block, Stop>
     ensures reads { Reads (read Phrase.Block_ tokens.old) result tokens.new }
-    ensures no_longer { length tokens.new ≤ length tokens.old }
     ensures shorter { OnOk result (length tokens.new < length tokens.old) }
 {
     tokens.take(Kind::LeftBrace)?;
@@ -321,7 +288,7 @@ fn more_blocks(
     first: List<Block>,
 ) -> Result<List<Block>, Stop>
     ensures reads { Reads (with_front first (read Phrase.MoreBlocks tokens.old)) result tokens.new }
-    ensures no_longer { length tokens.new ≤ length tokens.old }
+    ensures no_longer { OnOk result (length tokens.new ≤ length tokens.old) }
 {
     let mut found = first;
     'found: while tokens.sees(Class::One(Kind::LeftBrace)) {
@@ -334,7 +301,7 @@ fn more_blocks(
 #[tactic(auto, using(vd_logic_grammar::specs::Laws::read_is, vd_grammar::specs::Loops::fronts))]
 fn blocks(alloc: Global, tokens: &mut Tokens<'_>) -> Result<List<Block>, Stop>
     ensures reads { Reads (read Phrase.Blocks tokens.old) result tokens.new }
-    ensures no_longer { length tokens.new ≤ length tokens.old }
+    ensures no_longer { OnOk result (length tokens.new ≤ length tokens.old) }
 {
     let mut found = List::new(alloc);
     found.push(block(alloc, tokens)?)?;

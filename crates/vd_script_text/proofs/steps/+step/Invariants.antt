@@ -4,6 +4,12 @@ use Rattle.vd_logic_grammar.specs.Grammar.{Steps, MoreBlocks}
 use Rattle.vd_logic_grammar.specs.Read.{read}
 use Rattle.vd_script_text.proofs.steps.+step.Given as goal
 
+abbrev pub decreases-two_blocks_end : goal.decreases-two_blocks_end
+decreases-two_blocks_end l = 8 * length l.tokens.now + 1
+
+abbrev pub decreases-block_end : goal.decreases-block_end
+decreases-block_end l = 8 * length l.tokens.now + 1
+
 abbrev pub decreases-branches : goal.decreases-branches
 decreases-branches l = 8 * length l.tokens.now
 

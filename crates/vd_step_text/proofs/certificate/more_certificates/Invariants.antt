@@ -2,7 +2,7 @@ use Rattle.std.proofs.Common.{◌≡◌, length, ◌≤◌}
 use Rattle.vd_grammar.specs.Outcome.{with_front}
 use Rattle.vd_logic_grammar.specs.Grammar.{MoreCertificates}
 use Rattle.vd_logic_grammar.specs.Read.{read}
-use Rattle.vd_script_text.proofs.certificate.more_certificates.Given as goal
+use Rattle.vd_step_text.proofs.certificate.more_certificates.Given as goal
 
 abbrev pub invariant-found : goal.invariant-found
 invariant-found l = (with_front l.found (read MoreCertificates l.tokens) ≡ with_front l.fn.first (read MoreCertificates l.fn.tokens)) × (length l.tokens ≤ length l.fn.tokens)

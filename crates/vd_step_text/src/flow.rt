@@ -1,20 +1,18 @@
 //! Steps that run a statement, without blocks.
 
-ghost use Rattle.std.specs.Prelude.{◌≡◌, ◌<◌, ◌≤◌, length, OnOk};
+ghost use Rattle.std.specs.Prelude.{◌<◌, length, OnOk};
 ghost use Rattle.vd_grammar.specs.Reads.{Reads};
-ghost use Rattle.vd_logic_grammar.specs.Grammar.{Phrase, Rule};
-ghost use Rattle.vd_logic_grammar.specs.Read.{read, read_rule};
+ghost use Rattle.vd_logic_grammar.specs.Grammar.{Rule};
+ghost use Rattle.vd_logic_grammar.specs.Read.{read_rule};
 
-use crate::endings::{at_by_end, terms_by_end};
+use crate::endings::{at_by_end, terms_at_by_end, terms_by_end};
 use std::alloc::Global;
-use vd_assertion_text::terms;
 use vd_grammar::Stop;
 use vd_logic::StepNode;
 use vd_logic_grammar::{Kind, Tokens};
 
-pub(crate) fn skip(tokens: &mut Tokens<'_>) -> Result<StepNode, Stop>
+pub fn skip(tokens: &mut Tokens<'_>) -> Result<StepNode, Stop>
     ensures reads { Reads (read_rule Rule.skip_step tokens.old) result tokens.new }
-    ensures no_longer { length tokens.new ≤ length tokens.old }
     ensures shorter { OnOk result (length tokens.new < length tokens.old) }
 {
     tokens.take(Kind::Skip)?;
@@ -22,9 +20,8 @@ pub(crate) fn skip(tokens: &mut Tokens<'_>) -> Result<StepNode, Stop>
     Ok(StepNode::Skip)
 }
 
-pub(crate) fn set(alloc: Global, tokens: &mut Tokens<'_>) -> Result<StepNode, Stop>
+pub fn set(alloc: Global, tokens: &mut Tokens<'_>) -> Result<StepNode, Stop>
     ensures reads { Reads (read_rule Rule.set_step tokens.old) result tokens.new }
-    ensures no_longer { length tokens.new ≤ length tokens.old }
     ensures shorter { OnOk result (length tokens.new < length tokens.old) }
 {
     tokens.take(Kind::Set)?;
@@ -32,9 +29,8 @@ pub(crate) fn set(alloc: Global, tokens: &mut Tokens<'_>) -> Result<StepNode, St
     Ok(StepNode::Set(items, proofs))
 }
 
-pub(crate) fn load(alloc: Global, tokens: &mut Tokens<'_>) -> Result<StepNode, Stop>
+pub fn load(alloc: Global, tokens: &mut Tokens<'_>) -> Result<StepNode, Stop>
     ensures reads { Reads (read_rule Rule.load_step tokens.old) result tokens.new }
-    ensures no_longer { length tokens.new ≤ length tokens.old }
     ensures shorter { OnOk result (length tokens.new < length tokens.old) }
 {
     tokens.take(Kind::Load)?;
@@ -43,9 +39,8 @@ pub(crate) fn load(alloc: Global, tokens: &mut Tokens<'_>) -> Result<StepNode, S
     Ok(StepNode::Load(first.value as u32, items, proofs))
 }
 
-pub(crate) fn store(alloc: Global, tokens: &mut Tokens<'_>) -> Result<StepNode, Stop>
+pub fn store(alloc: Global, tokens: &mut Tokens<'_>) -> Result<StepNode, Stop>
     ensures reads { Reads (read_rule Rule.store_step tokens.old) result tokens.new }
-    ensures no_longer { length tokens.new ≤ length tokens.old }
     ensures shorter { OnOk result (length tokens.new < length tokens.old) }
 {
     tokens.take(Kind::Store)?;
@@ -54,9 +49,8 @@ pub(crate) fn store(alloc: Global, tokens: &mut Tokens<'_>) -> Result<StepNode, 
     Ok(StepNode::Store(first.value as u32, items, proofs))
 }
 
-pub(crate) fn break_loop(alloc: Global, tokens: &mut Tokens<'_>) -> Result<StepNode, Stop>
+pub fn break_loop(alloc: Global, tokens: &mut Tokens<'_>) -> Result<StepNode, Stop>
     ensures reads { Reads (read_rule Rule.break_step tokens.old) result tokens.new }
-    ensures no_longer { length tokens.new ≤ length tokens.old }
     ensures shorter { OnOk result (length tokens.new < length tokens.old) }
 {
     tokens.take(Kind::Break)?;
@@ -64,9 +58,8 @@ pub(crate) fn break_loop(alloc: Global, tokens: &mut Tokens<'_>) -> Result<StepN
     Ok(StepNode::Break(terms, proofs))
 }
 
-pub(crate) fn continue_loop(alloc: Global, tokens: &mut Tokens<'_>) -> Result<StepNode, Stop>
+pub fn continue_loop(alloc: Global, tokens: &mut Tokens<'_>) -> Result<StepNode, Stop>
     ensures reads { Reads (read_rule Rule.continue_step tokens.old) result tokens.new }
-    ensures no_longer { length tokens.new ≤ length tokens.old }
     ensures shorter { OnOk result (length tokens.new < length tokens.old) }
 {
     tokens.take(Kind::Continue)?;
@@ -74,21 +67,17 @@ pub(crate) fn continue_loop(alloc: Global, tokens: &mut Tokens<'_>) -> Result<St
     Ok(StepNode::Continue(terms, proofs))
 }
 
-pub(crate) fn return_value(alloc: Global, tokens: &mut Tokens<'_>) -> Result<StepNode, Stop>
+pub fn return_value(alloc: Global, tokens: &mut Tokens<'_>) -> Result<StepNode, Stop>
     ensures reads { Reads (read_rule Rule.return_step tokens.old) result tokens.new }
-    ensures no_longer { length tokens.new ≤ length tokens.old }
     ensures shorter { OnOk result (length tokens.new < length tokens.old) }
 {
     tokens.take(Kind::Return)?;
-    tokens.take(Kind::LeftParen)?;
-    let terms = terms(alloc, tokens)?;
-    let (items, proofs, _) = at_by_end(alloc, tokens)?;
+    let (_, terms, items, proofs, _) = terms_at_by_end(alloc, tokens)?;
     Ok(StepNode::Return(terms, items, proofs))
 }
 
-pub(crate) fn fall(alloc: Global, tokens: &mut Tokens<'_>) -> Result<StepNode, Stop>
+pub fn fall(alloc: Global, tokens: &mut Tokens<'_>) -> Result<StepNode, Stop>
     ensures reads { Reads (read_rule Rule.fall_step tokens.old) result tokens.new }
-    ensures no_longer { length tokens.new ≤ length tokens.old }
     ensures shorter { OnOk result (length tokens.new < length tokens.old) }
 {
     tokens.take(Kind::Fall)?;

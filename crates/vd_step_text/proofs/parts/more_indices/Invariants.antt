@@ -1,11 +1,11 @@
 use Rattle.std.proofs.Common.{◌≡◌, length, ◌≤◌}
 use Rattle.vd_grammar.specs.Outcome.{with_front}
-use Rattle.vd_logic_grammar.specs.Grammar.{Products}
+use Rattle.vd_logic_grammar.specs.Grammar.{MoreIndices}
 use Rattle.vd_logic_grammar.specs.Read.{read}
-use Rattle.vd_script_text.proofs.certificate.more_products.Given as goal
+use Rattle.vd_step_text.proofs.parts.more_indices.Given as goal
 
 abbrev pub invariant-found : goal.invariant-found
-invariant-found l = (with_front l.found (read Products l.tokens) ≡ with_front l.fn.first (read Products l.fn.tokens)) × (length l.tokens ≤ length l.fn.tokens)
+invariant-found l = (with_front l.found (read MoreIndices l.tokens) ≡ with_front l.fn.first (read MoreIndices l.fn.tokens)) × (length l.tokens ≤ length l.fn.tokens)
 
 abbrev pub decreases-found : goal.decreases-found
 decreases-found l = length l.tokens

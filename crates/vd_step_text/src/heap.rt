@@ -1,11 +1,11 @@
 //! Steps on items, and the last of the rules.
 
-ghost use Rattle.std.specs.Prelude.{◌≡◌, ◌<◌, ◌≤◌, length, OnOk};
+ghost use Rattle.std.specs.Prelude.{◌<◌, length, OnOk};
 ghost use Rattle.vd_grammar.specs.Reads.{Reads};
 ghost use Rattle.vd_logic_grammar.specs.Grammar.{Phrase, Rule};
 ghost use Rattle.vd_logic_grammar.specs.Read.{read, read_rule};
 
-use crate::endings::{by_end, terms_by_end, two_by_end};
+use crate::endings::{by_end, second_term_end, terms_by_end, two_by_end};
 use crate::parts::{forgotten, second};
 use std::alloc::Global;
 use vd_assertion_text::term;
@@ -14,25 +14,20 @@ use vd_grammar::Stop;
 use vd_logic::StepNode;
 use vd_logic_grammar::{Class, Kind, Tokens, name_of};
 
-pub(crate) fn cut(alloc: Global, tokens: &mut Tokens<'_>) -> Result<StepNode, Stop>
+fn cut(alloc: Global, tokens: &mut Tokens<'_>) -> Result<StepNode, Stop>
     ensures reads { Reads (read_rule Rule.cut_step tokens.old) result tokens.new }
-    ensures no_longer { length tokens.new ≤ length tokens.old }
     ensures shorter { OnOk result (length tokens.new < length tokens.old) }
 {
     tokens.take(Kind::Cut)?;
     let first = tokens.index()?;
     tokens.take(Kind::LeftParen)?;
-    let a = hold(term(alloc, tokens)?);
-    tokens.take(Kind::Comma)?;
-    let b = hold(term(alloc, tokens)?);
-    tokens.take(Kind::RightParen)?;
-    tokens.take(Kind::Semicolon)?;
-    Ok(StepNode::Cut(first.value as u32, a.out(), b.out()))
+    let front = hold(term(alloc, tokens)?);
+    let (_, back, _, _) = second_term_end(alloc, tokens)?;
+    Ok(StepNode::Cut(first.value as u32, front.out(), back))
 }
 
-pub(crate) fn glue(tokens: &mut Tokens<'_>) -> Result<StepNode, Stop>
+fn glue(tokens: &mut Tokens<'_>) -> Result<StepNode, Stop>
     ensures reads { Reads (read_rule Rule.glue_step tokens.old) result tokens.new }
-    ensures no_longer { length tokens.new ≤ length tokens.old }
     ensures shorter { OnOk result (length tokens.new < length tokens.old) }
 {
     tokens.take(Kind::Glue)?;
@@ -42,9 +37,8 @@ pub(crate) fn glue(tokens: &mut Tokens<'_>) -> Result<StepNode, Stop>
     Ok(StepNode::Glue(first.value as u32, second.value as u32))
 }
 
-pub(crate) fn share(alloc: Global, tokens: &mut Tokens<'_>) -> Result<StepNode, Stop>
+fn share(alloc: Global, tokens: &mut Tokens<'_>) -> Result<StepNode, Stop>
     ensures reads { Reads (read_rule Rule.share_step tokens.old) result tokens.new }
-    ensures no_longer { length tokens.new ≤ length tokens.old }
     ensures shorter { OnOk result (length tokens.new < length tokens.old) }
 {
     tokens.take(Kind::Share)?;
@@ -54,9 +48,8 @@ pub(crate) fn share(alloc: Global, tokens: &mut Tokens<'_>) -> Result<StepNode, 
     Ok(StepNode::Share(first.value as u32, part.out(), proofs))
 }
 
-pub(crate) fn unshare(alloc: Global, tokens: &mut Tokens<'_>) -> Result<StepNode, Stop>
+fn unshare(alloc: Global, tokens: &mut Tokens<'_>) -> Result<StepNode, Stop>
     ensures reads { Reads (read_rule Rule.unshare_step tokens.old) result tokens.new }
-    ensures no_longer { length tokens.new ≤ length tokens.old }
     ensures shorter { OnOk result (length tokens.new < length tokens.old) }
 {
     tokens.take(Kind::Unshare)?;
@@ -64,9 +57,8 @@ pub(crate) fn unshare(alloc: Global, tokens: &mut Tokens<'_>) -> Result<StepNode
     Ok(StepNode::Unshare(first.value as u32, second.value as u32, proofs))
 }
 
-pub(crate) fn agree(alloc: Global, tokens: &mut Tokens<'_>) -> Result<StepNode, Stop>
+fn agree(alloc: Global, tokens: &mut Tokens<'_>) -> Result<StepNode, Stop>
     ensures reads { Reads (read_rule Rule.agree_step tokens.old) result tokens.new }
-    ensures no_longer { length tokens.new ≤ length tokens.old }
     ensures shorter { OnOk result (length tokens.new < length tokens.old) }
 {
     tokens.take(Kind::Agree)?;
@@ -74,9 +66,8 @@ pub(crate) fn agree(alloc: Global, tokens: &mut Tokens<'_>) -> Result<StepNode, 
     Ok(StepNode::Agree(first.value as u32, second.value as u32, proofs))
 }
 
-pub(crate) fn bounds(alloc: Global, tokens: &mut Tokens<'_>) -> Result<StepNode, Stop>
+fn bounds(alloc: Global, tokens: &mut Tokens<'_>) -> Result<StepNode, Stop>
     ensures reads { Reads (read_rule Rule.bounds_step tokens.old) result tokens.new }
-    ensures no_longer { length tokens.new ≤ length tokens.old }
     ensures shorter { OnOk result (length tokens.new < length tokens.old) }
 {
     tokens.take(Kind::Bounds)?;
@@ -86,9 +77,8 @@ pub(crate) fn bounds(alloc: Global, tokens: &mut Tokens<'_>) -> Result<StepNode,
     Ok(StepNode::Bounds(first.value as u32, other, proofs))
 }
 
-pub(crate) fn apart(alloc: Global, tokens: &mut Tokens<'_>) -> Result<StepNode, Stop>
+fn apart(alloc: Global, tokens: &mut Tokens<'_>) -> Result<StepNode, Stop>
     ensures reads { Reads (read_rule Rule.apart_step tokens.old) result tokens.new }
-    ensures no_longer { length tokens.new ≤ length tokens.old }
     ensures shorter { OnOk result (length tokens.new < length tokens.old) }
 {
     tokens.take(Kind::Apart)?;
@@ -96,9 +86,8 @@ pub(crate) fn apart(alloc: Global, tokens: &mut Tokens<'_>) -> Result<StepNode, 
     Ok(StepNode::Apart(first.value as u32, second.value as u32, proofs))
 }
 
-pub(crate) fn forget(alloc: Global, tokens: &mut Tokens<'_>) -> Result<StepNode, Stop>
+fn forget(alloc: Global, tokens: &mut Tokens<'_>) -> Result<StepNode, Stop>
     ensures reads { Reads (read_rule Rule.forget_step tokens.old) result tokens.new }
-    ensures no_longer { length tokens.new ≤ length tokens.old }
     ensures shorter { OnOk result (length tokens.new < length tokens.old) }
 {
     tokens.take(Kind::Forget)?;
@@ -107,9 +96,8 @@ pub(crate) fn forget(alloc: Global, tokens: &mut Tokens<'_>) -> Result<StepNode,
     Ok(StepNode::Forget(what.out()))
 }
 
-pub(crate) fn meet(alloc: Global, tokens: &mut Tokens<'_>) -> Result<StepNode, Stop>
+fn meet(alloc: Global, tokens: &mut Tokens<'_>) -> Result<StepNode, Stop>
     ensures reads { Reads (read_rule Rule.meet_step tokens.old) result tokens.new }
-    ensures no_longer { length tokens.new ≤ length tokens.old }
     ensures shorter { OnOk result (length tokens.new < length tokens.old) }
 {
     tokens.take(Kind::Meet)?;
@@ -117,9 +105,8 @@ pub(crate) fn meet(alloc: Global, tokens: &mut Tokens<'_>) -> Result<StepNode, S
     Ok(StepNode::Meet(terms, proofs))
 }
 
-pub(crate) fn name(alloc: Global, tokens: &mut Tokens<'_>) -> Result<StepNode, Stop>
+fn name(alloc: Global, tokens: &mut Tokens<'_>) -> Result<StepNode, Stop>
     ensures reads { Reads (read_rule Rule.name_step tokens.old) result tokens.new }
-    ensures no_longer { length tokens.new ≤ length tokens.old }
     ensures shorter { OnOk result (length tokens.new < length tokens.old) }
 {
     tokens.take(Kind::NameWord)?;
@@ -128,4 +115,42 @@ pub(crate) fn name(alloc: Global, tokens: &mut Tokens<'_>) -> Result<StepNode, S
     let value = hold(term(alloc, tokens)?);
     tokens.take(Kind::Semicolon)?;
     Ok(StepNode::Name(name_of(alloc, name)?, value.out()))
+}
+
+/// A step on items.
+#[tactic(auto, using(vd_logic_grammar::specs::Laws::read_is))]
+pub fn item_step(alloc: Global, tokens: &mut Tokens<'_>) -> Result<StepNode, Stop>
+    ensures reads { Reads (read Phrase.ItemStep tokens.old) result tokens.new }
+    ensures shorter { OnOk result (length tokens.new < length tokens.old) }
+{
+    if tokens.sees(Class::One(Kind::Cut)) {
+        cut(alloc, tokens)
+    } else if tokens.sees(Class::One(Kind::Glue)) {
+        glue(tokens)
+    } else if tokens.sees(Class::One(Kind::Share)) {
+        share(alloc, tokens)
+    } else if tokens.sees(Class::One(Kind::Unshare)) {
+        unshare(alloc, tokens)
+    } else if tokens.sees(Class::One(Kind::Agree)) {
+        agree(alloc, tokens)
+    } else if tokens.sees(Class::One(Kind::Bounds)) {
+        bounds(alloc, tokens)
+    } else {
+        apart(alloc, tokens)
+    }
+}
+
+/// A step that forgets, meets or names.
+#[tactic(auto, using(vd_logic_grammar::specs::Laws::read_is))]
+pub fn last_step(alloc: Global, tokens: &mut Tokens<'_>) -> Result<StepNode, Stop>
+    ensures reads { Reads (read Phrase.LastStep tokens.old) result tokens.new }
+    ensures shorter { OnOk result (length tokens.new < length tokens.old) }
+{
+    if tokens.sees(Class::One(Kind::Forget)) {
+        forget(alloc, tokens)
+    } else if tokens.sees(Class::One(Kind::Meet)) {
+        meet(alloc, tokens)
+    } else {
+        name(alloc, tokens)
+    }
 }

@@ -1,6 +1,6 @@
 //! Numbers and names that stand in steps.
 
-ghost use Rattle.std.specs.Prelude.{◌≡◌, ◌≤◌, length};
+ghost use Rattle.std.specs.Prelude.{◌≡◌, ◌≤◌, length, OnOk};
 ghost use Rattle.vd_grammar.specs.Outcome.{with_front};
 ghost use Rattle.vd_grammar.specs.Reads.{Reads};
 ghost use Rattle.vd_logic_grammar.specs.Grammar.{Phrase, Rule};
@@ -16,7 +16,7 @@ use vd_logic_grammar::{Class, Kind, Tokens, name_of};
 #[tactic(auto, using(vd_logic_grammar::specs::Laws::read_is, vd_grammar::specs::Loops::fronts))]
 fn more_indices(alloc: Global, tokens: &mut Tokens<'_>, first: List<u32>) -> Result<List<u32>, Stop>
     ensures reads { Reads (with_front first (read Phrase.MoreIndices tokens.old)) result tokens.new }
-    ensures no_longer { length tokens.new ≤ length tokens.old }
+    ensures no_longer { OnOk result (length tokens.new ≤ length tokens.old) }
 {
     let mut found = first;
     'found: while tokens.sees(Class::One(Kind::Comma)) {
@@ -30,7 +30,7 @@ fn more_indices(alloc: Global, tokens: &mut Tokens<'_>, first: List<u32>) -> Res
 #[tactic(auto, using(vd_grammar::specs::Loops::fronts))]
 fn some_indices(alloc: Global, tokens: &mut Tokens<'_>) -> Result<List<u32>, Stop>
     ensures reads { Reads (read_rule Rule.at tokens.old) result tokens.new }
-    ensures no_longer { length tokens.new ≤ length tokens.old }
+    ensures no_longer { OnOk result (length tokens.new ≤ length tokens.old) }
 {
     tokens.take(Kind::At)?;
     let number = tokens.index()?;
@@ -41,9 +41,9 @@ fn some_indices(alloc: Global, tokens: &mut Tokens<'_>) -> Result<List<u32>, Sto
 
 /// The items behind `at`, or none.
 #[tactic(auto, using(vd_logic_grammar::specs::Laws::read_is))]
-pub(crate) fn at(alloc: Global, tokens: &mut Tokens<'_>) -> Result<List<u32>, Stop>
+pub fn at(alloc: Global, tokens: &mut Tokens<'_>) -> Result<List<u32>, Stop>
     ensures reads { Reads (read Phrase.At tokens.old) result tokens.new }
-    ensures no_longer { length tokens.new ≤ length tokens.old }
+    ensures no_longer { OnOk result (length tokens.new ≤ length tokens.old) }
 {
     if tokens.sees(Class::One(Kind::At)) {
         some_indices(alloc, tokens)
@@ -56,7 +56,7 @@ pub(crate) fn at(alloc: Global, tokens: &mut Tokens<'_>) -> Result<List<u32>, St
 #[tactic(auto, using(vd_logic_grammar::specs::Laws::read_is, vd_grammar::specs::Loops::fronts))]
 fn more_names(alloc: Global, tokens: &mut Tokens<'_>, first: List<Name>) -> Result<List<Name>, Stop>
     ensures reads { Reads (with_front first (read Phrase.MoreNames tokens.old)) result tokens.new }
-    ensures no_longer { length tokens.new ≤ length tokens.old }
+    ensures no_longer { OnOk result (length tokens.new ≤ length tokens.old) }
 {
     let mut found = first;
     'found: while tokens.sees(Class::One(Kind::Comma)) {
@@ -70,7 +70,7 @@ fn more_names(alloc: Global, tokens: &mut Tokens<'_>, first: List<Name>) -> Resu
 #[tactic(auto, using(vd_grammar::specs::Loops::fronts))]
 fn some_as_names(alloc: Global, tokens: &mut Tokens<'_>) -> Result<List<Name>, Stop>
     ensures reads { Reads (read_rule Rule.as_names tokens.old) result tokens.new }
-    ensures no_longer { length tokens.new ≤ length tokens.old }
+    ensures no_longer { OnOk result (length tokens.new ≤ length tokens.old) }
 {
     tokens.take(Kind::As)?;
     let name = tokens.name()?;
@@ -81,9 +81,9 @@ fn some_as_names(alloc: Global, tokens: &mut Tokens<'_>) -> Result<List<Name>, S
 
 /// The names behind `as`, or none.
 #[tactic(auto, using(vd_logic_grammar::specs::Laws::read_is))]
-pub(crate) fn as_names(alloc: Global, tokens: &mut Tokens<'_>) -> Result<List<Name>, Stop>
+pub fn as_names(alloc: Global, tokens: &mut Tokens<'_>) -> Result<List<Name>, Stop>
     ensures reads { Reads (read Phrase.As tokens.old) result tokens.new }
-    ensures no_longer { length tokens.new ≤ length tokens.old }
+    ensures no_longer { OnOk result (length tokens.new ≤ length tokens.old) }
 {
     if tokens.sees(Class::One(Kind::As)) {
         some_as_names(alloc, tokens)
@@ -95,7 +95,7 @@ pub(crate) fn as_names(alloc: Global, tokens: &mut Tokens<'_>) -> Result<List<Na
 #[tactic(auto, using(vd_grammar::specs::Loops::fronts))]
 fn some_names(alloc: Global, tokens: &mut Tokens<'_>) -> Result<List<Name>, Stop>
     ensures reads { Reads (read_rule Rule.names tokens.old) result tokens.new }
-    ensures no_longer { length tokens.new ≤ length tokens.old }
+    ensures no_longer { OnOk result (length tokens.new ≤ length tokens.old) }
 {
     let name = tokens.name()?;
     let mut found = List::new(alloc);
@@ -107,9 +107,9 @@ fn some_names(alloc: Global, tokens: &mut Tokens<'_>) -> Result<List<Name>, Stop
 
 /// The names that a block opens, or none.
 #[tactic(auto, using(vd_logic_grammar::specs::Laws::read_is))]
-pub(crate) fn names(alloc: Global, tokens: &mut Tokens<'_>) -> Result<List<Name>, Stop>
+pub fn names(alloc: Global, tokens: &mut Tokens<'_>) -> Result<List<Name>, Stop>
     ensures reads { Reads (read Phrase.Names tokens.old) result tokens.new }
-    ensures no_longer { length tokens.new ≤ length tokens.old }
+    ensures no_longer { OnOk result (length tokens.new ≤ length tokens.old) }
 {
     if tokens.sees(Class::AnyName) {
         some_names(alloc, tokens)
@@ -120,7 +120,7 @@ pub(crate) fn names(alloc: Global, tokens: &mut Tokens<'_>) -> Result<List<Name>
 
 fn some_back(tokens: &mut Tokens<'_>) -> Result<bool, Stop>
     ensures reads { Reads (read_rule Rule.back tokens.old) result tokens.new }
-    ensures no_longer { length tokens.new ≤ length tokens.old }
+    ensures no_longer { OnOk result (length tokens.new ≤ length tokens.old) }
 {
     tokens.take(Kind::Back)?;
     Ok(true)
@@ -128,9 +128,9 @@ fn some_back(tokens: &mut Tokens<'_>) -> Result<bool, Stop>
 
 /// Whether `back` stands there.
 #[tactic(auto, using(vd_logic_grammar::specs::Laws::read_is))]
-pub(crate) fn back(tokens: &mut Tokens<'_>) -> Result<bool, Stop>
+pub fn back(tokens: &mut Tokens<'_>) -> Result<bool, Stop>
     ensures reads { Reads (read Phrase.Back tokens.old) result tokens.new }
-    ensures no_longer { length tokens.new ≤ length tokens.old }
+    ensures no_longer { OnOk result (length tokens.new ≤ length tokens.old) }
 {
     if tokens.sees(Class::One(Kind::Back)) {
         some_back(tokens)
@@ -141,7 +141,7 @@ pub(crate) fn back(tokens: &mut Tokens<'_>) -> Result<bool, Stop>
 
 fn in_prop(tokens: &mut Tokens<'_>) -> Result<Occurrence, Stop>
     ensures reads { Reads (read_rule Rule.in_prop tokens.old) result tokens.new }
-    ensures no_longer { length tokens.new ≤ length tokens.old }
+    ensures no_longer { OnOk result (length tokens.new ≤ length tokens.old) }
 {
     tokens.take(Kind::Prop)?;
     let number = tokens.index()?;
@@ -150,7 +150,7 @@ fn in_prop(tokens: &mut Tokens<'_>) -> Result<Occurrence, Stop>
 
 fn in_item(tokens: &mut Tokens<'_>) -> Result<Occurrence, Stop>
     ensures reads { Reads (read_rule Rule.in_item tokens.old) result tokens.new }
-    ensures no_longer { length tokens.new ≤ length tokens.old }
+    ensures no_longer { OnOk result (length tokens.new ≤ length tokens.old) }
 {
     tokens.take(Kind::Sep)?;
     let number = tokens.index()?;
@@ -159,7 +159,7 @@ fn in_item(tokens: &mut Tokens<'_>) -> Result<Occurrence, Stop>
 
 fn in_local(alloc: Global, tokens: &mut Tokens<'_>) -> Result<Occurrence, Stop>
     ensures reads { Reads (read_rule Rule.in_local tokens.old) result tokens.new }
-    ensures no_longer { length tokens.new ≤ length tokens.old }
+    ensures no_longer { OnOk result (length tokens.new ≤ length tokens.old) }
 {
     tokens.take(Kind::Local)?;
     let name = tokens.name()?;
@@ -168,9 +168,9 @@ fn in_local(alloc: Global, tokens: &mut Tokens<'_>) -> Result<Occurrence, Stop>
 
 /// Where a term is replaced.
 #[tactic(auto, using(vd_logic_grammar::specs::Laws::read_is))]
-pub(crate) fn occurrence(alloc: Global, tokens: &mut Tokens<'_>) -> Result<Occurrence, Stop>
+pub fn occurrence(alloc: Global, tokens: &mut Tokens<'_>) -> Result<Occurrence, Stop>
     ensures reads { Reads (read Phrase.Occurrence_ tokens.old) result tokens.new }
-    ensures no_longer { length tokens.new ≤ length tokens.old }
+    ensures no_longer { OnOk result (length tokens.new ≤ length tokens.old) }
 {
     if tokens.sees(Class::One(Kind::Prop)) {
         in_prop(tokens)
@@ -183,7 +183,7 @@ pub(crate) fn occurrence(alloc: Global, tokens: &mut Tokens<'_>) -> Result<Occur
 
 fn forget_prop(tokens: &mut Tokens<'_>) -> Result<Forgotten, Stop>
     ensures reads { Reads (read_rule Rule.forget_prop tokens.old) result tokens.new }
-    ensures no_longer { length tokens.new ≤ length tokens.old }
+    ensures no_longer { OnOk result (length tokens.new ≤ length tokens.old) }
 {
     tokens.take(Kind::Prop)?;
     let number = tokens.index()?;
@@ -192,7 +192,7 @@ fn forget_prop(tokens: &mut Tokens<'_>) -> Result<Forgotten, Stop>
 
 fn forget_local(alloc: Global, tokens: &mut Tokens<'_>) -> Result<Forgotten, Stop>
     ensures reads { Reads (read_rule Rule.forget_local tokens.old) result tokens.new }
-    ensures no_longer { length tokens.new ≤ length tokens.old }
+    ensures no_longer { OnOk result (length tokens.new ≤ length tokens.old) }
 {
     tokens.take(Kind::Local)?;
     let name = tokens.name()?;
@@ -201,9 +201,9 @@ fn forget_local(alloc: Global, tokens: &mut Tokens<'_>) -> Result<Forgotten, Sto
 
 /// What is forgotten.
 #[tactic(auto, using(vd_logic_grammar::specs::Laws::read_is))]
-pub(crate) fn forgotten(alloc: Global, tokens: &mut Tokens<'_>) -> Result<Forgotten, Stop>
+pub fn forgotten(alloc: Global, tokens: &mut Tokens<'_>) -> Result<Forgotten, Stop>
     ensures reads { Reads (read Phrase.Forgotten_ tokens.old) result tokens.new }
-    ensures no_longer { length tokens.new ≤ length tokens.old }
+    ensures no_longer { OnOk result (length tokens.new ≤ length tokens.old) }
 {
     if tokens.sees(Class::One(Kind::Prop)) {
         forget_prop(tokens)
@@ -214,7 +214,7 @@ pub(crate) fn forgotten(alloc: Global, tokens: &mut Tokens<'_>) -> Result<Forgot
 
 fn some_second(tokens: &mut Tokens<'_>) -> Result<Option<u32>, Stop>
     ensures reads { Reads (read_rule Rule.second tokens.old) result tokens.new }
-    ensures no_longer { length tokens.new ≤ length tokens.old }
+    ensures no_longer { OnOk result (length tokens.new ≤ length tokens.old) }
 {
     let number = tokens.index()?;
     Ok(Some(number.value as u32))
@@ -222,9 +222,9 @@ fn some_second(tokens: &mut Tokens<'_>) -> Result<Option<u32>, Stop>
 
 /// A second item, or none.
 #[tactic(auto, using(vd_logic_grammar::specs::Laws::read_is))]
-pub(crate) fn second(tokens: &mut Tokens<'_>) -> Result<Option<u32>, Stop>
+pub fn second(tokens: &mut Tokens<'_>) -> Result<Option<u32>, Stop>
     ensures reads { Reads (read Phrase.Second tokens.old) result tokens.new }
-    ensures no_longer { length tokens.new ≤ length tokens.old }
+    ensures no_longer { OnOk result (length tokens.new ≤ length tokens.old) }
 {
     if tokens.sees(Class::One(Kind::Index)) {
         some_second(tokens)

@@ -1,13 +1,11 @@
 //! Steps for calls, memory and locks, without blocks.
 
-ghost use Rattle.std.specs.Prelude.{◌≡◌, ◌<◌, ◌≤◌, length, OnOk};
+ghost use Rattle.std.specs.Prelude.{◌<◌, length, OnOk};
 ghost use Rattle.vd_grammar.specs.Reads.{Reads};
-ghost use Rattle.vd_logic_grammar.specs.Grammar.{Phrase, Rule};
-ghost use Rattle.vd_logic_grammar.specs.Read.{read, read_rule};
+ghost use Rattle.vd_logic_grammar.specs.Grammar.{Rule};
+ghost use Rattle.vd_logic_grammar.specs.Read.{read_rule};
 
-use crate::certificate::by;
-use crate::endings::{at_by_end, two_by_end};
-use crate::parts::{as_names, at};
+use crate::endings::{at_by_as_end, at_by_end, at_end, terms_at_by_end, two_by_end};
 use std::alloc::Global;
 use vd_assertion_text::{label, terms};
 use vd_base::hold;
@@ -15,24 +13,19 @@ use vd_grammar::Stop;
 use vd_logic::StepNode;
 use vd_logic_grammar::{Kind, Tokens};
 
-pub(crate) fn call(alloc: Global, tokens: &mut Tokens<'_>) -> Result<StepNode, Stop>
+pub fn call(alloc: Global, tokens: &mut Tokens<'_>) -> Result<StepNode, Stop>
     ensures reads { Reads (read_rule Rule.call_step tokens.old) result tokens.new }
-    ensures no_longer { length tokens.new ≤ length tokens.old }
     ensures shorter { OnOk result (length tokens.new < length tokens.old) }
 {
     tokens.take(Kind::Call)?;
     tokens.take(Kind::LeftParen)?;
     let terms = terms(alloc, tokens)?;
-    let items = at(alloc, tokens)?;
-    let proofs = by(alloc, tokens)?;
-    let names = as_names(alloc, tokens)?;
-    tokens.take(Kind::Semicolon)?;
+    let (items, proofs, names, _) = at_by_as_end(alloc, tokens)?;
     Ok(StepNode::Call(terms, items, proofs, names))
 }
 
-pub(crate) fn free(alloc: Global, tokens: &mut Tokens<'_>) -> Result<StepNode, Stop>
+pub fn free(alloc: Global, tokens: &mut Tokens<'_>) -> Result<StepNode, Stop>
     ensures reads { Reads (read_rule Rule.free_step tokens.old) result tokens.new }
-    ensures no_longer { length tokens.new ≤ length tokens.old }
     ensures shorter { OnOk result (length tokens.new < length tokens.old) }
 {
     tokens.take(Kind::Free)?;
@@ -40,9 +33,8 @@ pub(crate) fn free(alloc: Global, tokens: &mut Tokens<'_>) -> Result<StepNode, S
     Ok(StepNode::Free(first.value as u32, second.value as u32, proofs))
 }
 
-pub(crate) fn make_lock(alloc: Global, tokens: &mut Tokens<'_>) -> Result<StepNode, Stop>
+pub fn make_lock(alloc: Global, tokens: &mut Tokens<'_>) -> Result<StepNode, Stop>
     ensures reads { Reads (read_rule Rule.makelock_step tokens.old) result tokens.new }
-    ensures no_longer { length tokens.new ≤ length tokens.old }
     ensures shorter { OnOk result (length tokens.new < length tokens.old) }
 {
     tokens.take(Kind::MakeLock)?;
@@ -52,34 +44,29 @@ pub(crate) fn make_lock(alloc: Global, tokens: &mut Tokens<'_>) -> Result<StepNo
     Ok(StepNode::MakeLock(first.value as u32, invariant.out(), items, proofs))
 }
 
-pub(crate) fn acquire(alloc: Global, tokens: &mut Tokens<'_>) -> Result<StepNode, Stop>
+pub fn acquire(alloc: Global, tokens: &mut Tokens<'_>) -> Result<StepNode, Stop>
     ensures reads { Reads (read_rule Rule.acquire_step tokens.old) result tokens.new }
-    ensures no_longer { length tokens.new ≤ length tokens.old }
     ensures shorter { OnOk result (length tokens.new < length tokens.old) }
 {
     tokens.take(Kind::Acquire)?;
     let first = tokens.index()?;
-    let items = at(alloc, tokens)?;
-    tokens.take(Kind::Semicolon)?;
+    let (items, _) = at_end(alloc, tokens)?;
     Ok(StepNode::Acquire(first.value as u32, items))
 }
 
-pub(crate) fn release(alloc: Global, tokens: &mut Tokens<'_>) -> Result<StepNode, Stop>
+pub fn release(alloc: Global, tokens: &mut Tokens<'_>) -> Result<StepNode, Stop>
     ensures reads { Reads (read_rule Rule.release_step tokens.old) result tokens.new }
-    ensures no_longer { length tokens.new ≤ length tokens.old }
     ensures shorter { OnOk result (length tokens.new < length tokens.old) }
 {
     tokens.take(Kind::Release)?;
     let first = tokens.index()?;
     let second = tokens.index()?;
-    let items = at(alloc, tokens)?;
-    tokens.take(Kind::Semicolon)?;
+    let (items, _) = at_end(alloc, tokens)?;
     Ok(StepNode::Release(first.value as u32, second.value as u32, items))
 }
 
-pub(crate) fn free_lock(alloc: Global, tokens: &mut Tokens<'_>) -> Result<StepNode, Stop>
+pub fn free_lock(alloc: Global, tokens: &mut Tokens<'_>) -> Result<StepNode, Stop>
     ensures reads { Reads (read_rule Rule.freelock_step tokens.old) result tokens.new }
-    ensures no_longer { length tokens.new ≤ length tokens.old }
     ensures shorter { OnOk result (length tokens.new < length tokens.old) }
 {
     tokens.take(Kind::FreeLock)?;
@@ -89,14 +76,11 @@ pub(crate) fn free_lock(alloc: Global, tokens: &mut Tokens<'_>) -> Result<StepNo
     Ok(StepNode::FreeLock(first.value as u32, second.value as u32, items, proofs))
 }
 
-pub(crate) fn spawn(alloc: Global, tokens: &mut Tokens<'_>) -> Result<StepNode, Stop>
+pub fn spawn(alloc: Global, tokens: &mut Tokens<'_>) -> Result<StepNode, Stop>
     ensures reads { Reads (read_rule Rule.spawn_step tokens.old) result tokens.new }
-    ensures no_longer { length tokens.new ≤ length tokens.old }
     ensures shorter { OnOk result (length tokens.new < length tokens.old) }
 {
     tokens.take(Kind::Spawn)?;
-    tokens.take(Kind::LeftParen)?;
-    let terms = terms(alloc, tokens)?;
-    let (items, proofs, _) = at_by_end(alloc, tokens)?;
+    let (_, terms, items, proofs, _) = terms_at_by_end(alloc, tokens)?;
     Ok(StepNode::Spawn(terms, items, proofs))
 }

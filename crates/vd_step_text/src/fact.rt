@@ -1,9 +1,9 @@
 //! Steps on predicates and facts, without blocks.
 
-ghost use Rattle.std.specs.Prelude.{◌≡◌, ◌<◌, ◌≤◌, length, OnOk};
+ghost use Rattle.std.specs.Prelude.{◌<◌, length, OnOk};
 ghost use Rattle.vd_grammar.specs.Reads.{Reads};
-ghost use Rattle.vd_logic_grammar.specs.Grammar.{Phrase, Rule};
-ghost use Rattle.vd_logic_grammar.specs.Read.{read, read_rule};
+ghost use Rattle.vd_logic_grammar.specs.Grammar.{Rule};
+ghost use Rattle.vd_logic_grammar.specs.Read.{read_rule};
 
 use crate::endings::{by_end, terms_by_end};
 use crate::parts::{back, occurrence};
@@ -14,9 +14,8 @@ use vd_grammar::Stop;
 use vd_logic::StepNode;
 use vd_logic_grammar::{Kind, Tokens, name_of};
 
-pub(crate) fn fold(alloc: Global, tokens: &mut Tokens<'_>) -> Result<StepNode, Stop>
+pub fn fold(alloc: Global, tokens: &mut Tokens<'_>) -> Result<StepNode, Stop>
     ensures reads { Reads (read_rule Rule.fold_step tokens.old) result tokens.new }
-    ensures no_longer { length tokens.new ≤ length tokens.old }
     ensures shorter { OnOk result (length tokens.new < length tokens.old) }
 {
     tokens.take(Kind::Fold)?;
@@ -29,9 +28,8 @@ pub(crate) fn fold(alloc: Global, tokens: &mut Tokens<'_>) -> Result<StepNode, S
     Ok(StepNode::Fold(name, case.value as u32, arguments, opened, proofs))
 }
 
-pub(crate) fn absurd(alloc: Global, tokens: &mut Tokens<'_>) -> Result<StepNode, Stop>
+pub fn absurd(alloc: Global, tokens: &mut Tokens<'_>) -> Result<StepNode, Stop>
     ensures reads { Reads (read_rule Rule.absurd_step tokens.old) result tokens.new }
-    ensures no_longer { length tokens.new ≤ length tokens.old }
     ensures shorter { OnOk result (length tokens.new < length tokens.old) }
 {
     tokens.take(Kind::Absurd)?;
@@ -39,9 +37,8 @@ pub(crate) fn absurd(alloc: Global, tokens: &mut Tokens<'_>) -> Result<StepNode,
     Ok(StepNode::Absurd(proofs))
 }
 
-pub(crate) fn have(alloc: Global, tokens: &mut Tokens<'_>) -> Result<StepNode, Stop>
+pub fn have(alloc: Global, tokens: &mut Tokens<'_>) -> Result<StepNode, Stop>
     ensures reads { Reads (read_rule Rule.have_step tokens.old) result tokens.new }
-    ensures no_longer { length tokens.new ≤ length tokens.old }
     ensures shorter { OnOk result (length tokens.new < length tokens.old) }
 {
     tokens.take(Kind::Have)?;
@@ -50,9 +47,8 @@ pub(crate) fn have(alloc: Global, tokens: &mut Tokens<'_>) -> Result<StepNode, S
     Ok(StepNode::Have(fact.out(), proofs))
 }
 
-pub(crate) fn law(alloc: Global, tokens: &mut Tokens<'_>) -> Result<StepNode, Stop>
+pub fn law(alloc: Global, tokens: &mut Tokens<'_>) -> Result<StepNode, Stop>
     ensures reads { Reads (read_rule Rule.law_step tokens.old) result tokens.new }
-    ensures no_longer { length tokens.new ≤ length tokens.old }
     ensures shorter { OnOk result (length tokens.new < length tokens.old) }
 {
     tokens.take(Kind::Law)?;
@@ -61,9 +57,8 @@ pub(crate) fn law(alloc: Global, tokens: &mut Tokens<'_>) -> Result<StepNode, St
     Ok(StepNode::Law(name_of(alloc, name)?, terms, proofs))
 }
 
-pub(crate) fn subst(alloc: Global, tokens: &mut Tokens<'_>) -> Result<StepNode, Stop>
+pub fn subst(alloc: Global, tokens: &mut Tokens<'_>) -> Result<StepNode, Stop>
     ensures reads { Reads (read_rule Rule.subst_step tokens.old) result tokens.new }
-    ensures no_longer { length tokens.new ≤ length tokens.old }
     ensures shorter { OnOk result (length tokens.new < length tokens.old) }
 {
     tokens.take(Kind::Subst)?;
@@ -72,9 +67,8 @@ pub(crate) fn subst(alloc: Global, tokens: &mut Tokens<'_>) -> Result<StepNode, 
     Ok(StepNode::Subst(name_of(alloc, name)?))
 }
 
-pub(crate) fn rewrite(alloc: Global, tokens: &mut Tokens<'_>) -> Result<StepNode, Stop>
+pub fn rewrite(alloc: Global, tokens: &mut Tokens<'_>) -> Result<StepNode, Stop>
     ensures reads { Reads (read_rule Rule.rewrite_step tokens.old) result tokens.new }
-    ensures no_longer { length tokens.new ≤ length tokens.old }
     ensures shorter { OnOk result (length tokens.new < length tokens.old) }
 {
     tokens.take(Kind::Rewrite)?;

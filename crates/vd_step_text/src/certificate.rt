@@ -1,6 +1,6 @@
 //! Certificates.
 
-ghost use Rattle.std.specs.Prelude.{◌≡◌, ◌≤◌, length};
+ghost use Rattle.std.specs.Prelude.{◌≡◌, ◌≤◌, length, OnOk};
 ghost use Rattle.vd_grammar.specs.Outcome.{with_front};
 ghost use Rattle.vd_grammar.specs.Reads.{Reads};
 ghost use Rattle.vd_logic_grammar.specs.Grammar.{Phrase, Rule};
@@ -20,7 +20,7 @@ fn more_products(
     first: List<(i128, u32)>,
 ) -> Result<List<(i128, u32)>, Stop>
     ensures reads { Reads (with_front first (read Phrase.Products tokens.old)) result tokens.new }
-    ensures no_longer { length tokens.new ≤ length tokens.old }
+    ensures no_longer { OnOk result (length tokens.new ≤ length tokens.old) }
 {
     let mut found = first;
     'found: while tokens.sees(Class::One(Kind::Plus)) {
@@ -36,7 +36,7 @@ fn more_products(
 #[tactic(auto, using(vd_grammar::specs::Loops::fronts))]
 fn combination(alloc: Global, tokens: &mut Tokens<'_>) -> Result<CertLine, Stop>
     ensures reads { Reads (read_rule Rule.combination tokens.old) result tokens.new }
-    ensures no_longer { length tokens.new ≤ length tokens.old }
+    ensures no_longer { OnOk result (length tokens.new ≤ length tokens.old) }
 {
     let multiplier = tokens.number()?;
     tokens.take(Kind::Star)?;
@@ -49,7 +49,7 @@ fn combination(alloc: Global, tokens: &mut Tokens<'_>) -> Result<CertLine, Stop>
 
 fn cut_line(tokens: &mut Tokens<'_>) -> Result<CertLine, Stop>
     ensures reads { Reads (read_rule Rule.cut_line tokens.old) result tokens.new }
-    ensures no_longer { length tokens.new ≤ length tokens.old }
+    ensures no_longer { OnOk result (length tokens.new ≤ length tokens.old) }
 {
     tokens.take(Kind::Cut)?;
     let divisor = tokens.number()?;
@@ -60,7 +60,7 @@ fn cut_line(tokens: &mut Tokens<'_>) -> Result<CertLine, Stop>
 #[tactic(auto, using(vd_logic_grammar::specs::Laws::read_is))]
 fn line(alloc: Global, tokens: &mut Tokens<'_>) -> Result<CertLine, Stop>
     ensures reads { Reads (read Phrase.Line tokens.old) result tokens.new }
-    ensures no_longer { length tokens.new ≤ length tokens.old }
+    ensures no_longer { OnOk result (length tokens.new ≤ length tokens.old) }
 {
     if tokens.sees(Class::One(Kind::Cut)) {
         cut_line(tokens)
@@ -77,7 +77,7 @@ fn more_lines(
     first: List<CertLine>,
 ) -> Result<List<CertLine>, Stop>
     ensures reads { Reads (with_front first (read Phrase.MoreLines tokens.old)) result tokens.new }
-    ensures no_longer { length tokens.new ≤ length tokens.old }
+    ensures no_longer { OnOk result (length tokens.new ≤ length tokens.old) }
 {
     let mut found = first;
     'found: while !tokens.sees(Class::One(Kind::RightBrace)) {
@@ -91,7 +91,7 @@ fn more_lines(
 #[tactic(auto, using(vd_logic_grammar::specs::Laws::read_is, vd_grammar::specs::Loops::fronts))]
 fn certificate(alloc: Global, tokens: &mut Tokens<'_>) -> Result<Certificate, Stop>
     ensures reads { Reads (read Phrase.Certificate_ tokens.old) result tokens.new }
-    ensures no_longer { length tokens.new ≤ length tokens.old }
+    ensures no_longer { OnOk result (length tokens.new ≤ length tokens.old) }
 {
     tokens.take(Kind::LeftBrace)?;
     let mut found = List::new(alloc);
@@ -108,7 +108,7 @@ fn more_certificates(
     first: List<Certificate>,
 ) -> Result<List<Certificate>, Stop>
     ensures reads { Reads (with_front first (read Phrase.MoreCertificates tokens.old)) result tokens.new }
-    ensures no_longer { length tokens.new ≤ length tokens.old }
+    ensures no_longer { OnOk result (length tokens.new ≤ length tokens.old) }
 {
     let mut found = first;
     'found: while tokens.sees(Class::One(Kind::Comma)) {
@@ -121,7 +121,7 @@ fn more_certificates(
 #[tactic(auto, using(vd_grammar::specs::Loops::fronts))]
 fn some_certificates(alloc: Global, tokens: &mut Tokens<'_>) -> Result<List<Certificate>, Stop>
     ensures reads { Reads (read_rule Rule.by tokens.old) result tokens.new }
-    ensures no_longer { length tokens.new ≤ length tokens.old }
+    ensures no_longer { OnOk result (length tokens.new ≤ length tokens.old) }
 {
     tokens.take(Kind::By)?;
     let mut found = List::new(alloc);
@@ -131,9 +131,9 @@ fn some_certificates(alloc: Global, tokens: &mut Tokens<'_>) -> Result<List<Cert
 
 /// The certificates behind `by`, or none.
 #[tactic(auto, using(vd_logic_grammar::specs::Laws::read_is))]
-pub(crate) fn by(alloc: Global, tokens: &mut Tokens<'_>) -> Result<List<Certificate>, Stop>
+pub fn by(alloc: Global, tokens: &mut Tokens<'_>) -> Result<List<Certificate>, Stop>
     ensures reads { Reads (read Phrase.By tokens.old) result tokens.new }
-    ensures no_longer { length tokens.new ≤ length tokens.old }
+    ensures no_longer { OnOk result (length tokens.new ≤ length tokens.old) }
 {
     if tokens.sees(Class::One(Kind::By)) {
         some_certificates(alloc, tokens)
