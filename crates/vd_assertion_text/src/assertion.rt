@@ -1,23 +1,58 @@
 //! Assertions as they are written.
 
-ghost use Rattle.std.specs.Prelude.{◌≡◌, ◌≤◌, length};
+ghost use Rattle.std.specs.Prelude.{◌≡◌, ◌<◌, ◌≤◌, length, OnOk};
 ghost use Rattle.vd_grammar.specs.Outcome.{with_front};
 ghost use Rattle.vd_grammar.specs.Reads.{Reads};
 ghost use Rattle.vd_logic_grammar.specs.Grammar.{Phrase, Rule};
 ghost use Rattle.vd_logic_grammar.specs.Read.{read, read_rule};
+ghost use Rattle.vd_term_text.specs.Next.{ReadsNext};
 
 use crate::binder::binders;
-use crate::expression::term;
-use crate::fact::props;
-use crate::item::items;
 use std::alloc::Global;
 use vd_base::{List, Name, hold};
 use vd_grammar::Stop;
 use vd_logic::{Sort, Term};
 use vd_logic_grammar::{AssertionText, Class, Kind, Tokens, name_of};
+use vd_term_text::{items, props, term};
+
+fn last_local(tokens: &mut Tokens<'_>) -> Result<Option<(Name, Term)>, Stop>
+    ensures reads { ReadsNext (read_rule Rule.last_local tokens.old) (read Phrase.MoreLocals) result tokens.new }
+    ensures shorter { OnOk result (length tokens.new < length tokens.old) }
+    ensures no_longer { length tokens.new ≤ length tokens.old }
+{
+    tokens.take(Kind::RightParen)?;
+    Ok(None)
+}
+
+fn behind_comma(alloc: Global, tokens: &mut Tokens<'_>) -> Result<Option<(Name, Term)>, Stop>
+    ensures reads { ReadsNext (read_rule Rule.next_local tokens.old) (read Phrase.MoreLocals) result tokens.new }
+    ensures shorter { OnOk result (length tokens.new < length tokens.old) }
+    ensures no_longer { length tokens.new ≤ length tokens.old }
+{
+    tokens.take(Kind::Comma)?;
+    let name = tokens.name()?;
+    tokens.take(Kind::Equal)?;
+    let value = hold(term(alloc, tokens)?);
+    let name = name_of(alloc, name)?;
+    Ok(Some((name, value.out())))
+}
+
+/// The value behind a comma, or none where the bracket closes.
+#[tactic(auto, using(vd_logic_grammar::specs::Laws::read_is))]
+fn next_local(alloc: Global, tokens: &mut Tokens<'_>) -> Result<Option<(Name, Term)>, Stop>
+    ensures reads { ReadsNext (read Phrase.MoreLocals tokens.old) (read Phrase.MoreLocals) result tokens.new }
+    ensures shorter { OnOk result (length tokens.new < length tokens.old) }
+    ensures no_longer { length tokens.new ≤ length tokens.old }
+{
+    if tokens.sees(Class::One(Kind::RightParen)) {
+        last_local(tokens)
+    } else {
+        behind_comma(alloc, tokens)
+    }
+}
 
 /// The values of temporaries behind others, up to the closing bracket.
-#[tactic(auto, using(vd_logic_grammar::specs::Laws::read_is, vd_grammar::specs::Loops::fronts))]
+#[tactic(auto, using(vd_grammar::specs::Loops::fronts))]
 fn more_locals(
     alloc: Global,
     tokens: &mut Tokens<'_>,
@@ -27,15 +62,9 @@ fn more_locals(
     ensures no_longer { length tokens.new ≤ length tokens.old }
 {
     let mut found = first;
-    'found: while !tokens.sees(Class::One(Kind::RightParen)) {
-        tokens.take(Kind::Comma)?;
-        let name = tokens.name()?;
-        tokens.take(Kind::Equal)?;
-        let value = hold(term(alloc, tokens)?);
-        let name = name_of(alloc, name)?;
-        found.push((name, value.out()))?;
+    'found: while let Some(local) = next_local(alloc, tokens)? {
+        found.push(local)?;
     }
-    tokens.take(Kind::RightParen)?;
     Ok(found)
 }
 

@@ -1,10 +1,11 @@
 //! Parameters.
 
-ghost use Rattle.std.specs.Prelude.{◌≡◌, ◌≤◌, length};
+ghost use Rattle.std.specs.Prelude.{◌≡◌, ◌<◌, ◌≤◌, length, OnOk};
 ghost use Rattle.vd_grammar.specs.Outcome.{with_front};
 ghost use Rattle.vd_grammar.specs.Reads.{Reads};
 ghost use Rattle.vd_logic_grammar.specs.Grammar.{Phrase, Rule};
 ghost use Rattle.vd_logic_grammar.specs.Read.{read, read_rule};
+ghost use Rattle.vd_term_text.specs.Next.{ReadsNext};
 
 use crate::types::{ctype, filled, void_type};
 use std::alloc::Global;
@@ -12,8 +13,46 @@ use vd_base::{Field, List, hold};
 use vd_grammar::Stop;
 use vd_logic_grammar::{Class, Kind, Tokens, name_of};
 
+fn last_parameter(tokens: &mut Tokens<'_>) -> Result<Option<Field>, Stop>
+    ensures reads { ReadsNext (read_rule Rule.last_parameter tokens.old) (read Phrase.MoreParameters) result tokens.new }
+    ensures shorter { OnOk result (length tokens.new < length tokens.old) }
+    ensures no_longer { length tokens.new ≤ length tokens.old }
+{
+    tokens.take(Kind::RightParen)?;
+    Ok(None)
+}
+
+fn behind_comma(alloc: Global, tokens: &mut Tokens<'_>) -> Result<Option<Field>, Stop>
+    ensures reads { ReadsNext (read_rule Rule.next_parameter tokens.old) (read Phrase.MoreParameters) result tokens.new }
+    ensures shorter { OnOk result (length tokens.new < length tokens.old) }
+    ensures no_longer { length tokens.new ≤ length tokens.old }
+{
+    tokens.take(Kind::Comma)?;
+    let typ = hold(ctype(alloc, tokens)?);
+    let name = tokens.plain_name()?;
+    let name = name_of(alloc, name)?;
+    Ok(Some(Field {
+        name,
+        typ: typ.out(),
+    }))
+}
+
+/// The parameter behind a comma, or none where the bracket closes.
+#[tactic(auto, using(vd_logic_grammar::specs::Laws::read_is))]
+fn next_parameter(alloc: Global, tokens: &mut Tokens<'_>) -> Result<Option<Field>, Stop>
+    ensures reads { ReadsNext (read Phrase.MoreParameters tokens.old) (read Phrase.MoreParameters) result tokens.new }
+    ensures shorter { OnOk result (length tokens.new < length tokens.old) }
+    ensures no_longer { length tokens.new ≤ length tokens.old }
+{
+    if tokens.sees(Class::One(Kind::RightParen)) {
+        last_parameter(tokens)
+    } else {
+        behind_comma(alloc, tokens)
+    }
+}
+
 /// The parameters behind others, up to the closing bracket.
-#[tactic(auto, using(vd_logic_grammar::specs::Laws::read_is, vd_grammar::specs::Loops::fronts))]
+#[tactic(auto, using(vd_grammar::specs::Loops::fronts))]
 fn more_parameters(
     alloc: Global,
     tokens: &mut Tokens<'_>,
@@ -23,17 +62,9 @@ fn more_parameters(
     ensures no_longer { length tokens.new ≤ length tokens.old }
 {
     let mut found = first;
-    'found: while !tokens.sees(Class::One(Kind::RightParen)) {
-        tokens.take(Kind::Comma)?;
-        let typ = hold(ctype(alloc, tokens)?);
-        let name = tokens.plain_name()?;
-        let name = name_of(alloc, name)?;
-        found.push(Field {
-            name,
-            typ: typ.out(),
-        })?;
+    'found: while let Some(parameter) = next_parameter(alloc, tokens)? {
+        found.push(parameter)?;
     }
-    tokens.take(Kind::RightParen)?;
     Ok(found)
 }
 

@@ -9,11 +9,11 @@ use crate::certificate::by;
 use crate::endings::{at_by_end, two_by_end};
 use crate::parts::{as_names, at};
 use std::alloc::Global;
-use vd_assertion_text::{label, terms};
 use vd_base::hold;
 use vd_grammar::Stop;
 use vd_logic::StepNode;
 use vd_logic_grammar::{Kind, Tokens};
+use vd_term_text::{label, terms};
 
 pub(crate) fn call(alloc: Global, tokens: &mut Tokens<'_>) -> Result<StepNode, Stop>
     ensures reads { Reads (read_rule Rule.call_step tokens.old) result tokens.new }

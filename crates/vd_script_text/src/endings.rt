@@ -12,11 +12,11 @@ ghost use Rattle.vd_logic_grammar.specs.Read.{read};
 use crate::certificate::by;
 use crate::parts::at;
 use std::alloc::Global;
-use vd_assertion_text::terms;
 use vd_base::List;
 use vd_grammar::Stop;
 use vd_logic::{Certificate, Term};
 use vd_logic_grammar::{Kind, Token, Tokens};
+use vd_term_text::terms;
 
 /// The certificates of a step and its last token. The token is given too, so that the clause says what the whole row reads.
 pub(crate) fn by_end<'a>(

@@ -7,10 +7,10 @@ ghost use Rattle.vd_logic_grammar.specs.Read.{read, read_rule};
 
 use crate::endings::{at_by_end, terms_by_end};
 use std::alloc::Global;
-use vd_assertion_text::terms;
 use vd_grammar::Stop;
 use vd_logic::StepNode;
 use vd_logic_grammar::{Kind, Tokens};
+use vd_term_text::terms;
 
 pub(crate) fn skip(tokens: &mut Tokens<'_>) -> Result<StepNode, Stop>
     ensures reads { Reads (read_rule Rule.skip_step tokens.old) result tokens.new }

@@ -8,11 +8,11 @@ ghost use Rattle.vd_logic_grammar.specs.Read.{read, read_rule};
 use crate::endings::{by_end, terms_by_end, two_by_end};
 use crate::parts::{forgotten, second};
 use std::alloc::Global;
-use vd_assertion_text::term;
 use vd_base::hold;
 use vd_grammar::Stop;
 use vd_logic::StepNode;
 use vd_logic_grammar::{Class, Kind, Tokens, name_of};
+use vd_term_text::term;
 
 pub(crate) fn cut(alloc: Global, tokens: &mut Tokens<'_>) -> Result<StepNode, Stop>
     ensures reads { Reads (read_rule Rule.cut_step tokens.old) result tokens.new }

@@ -8,11 +8,11 @@ ghost use Rattle.vd_logic_grammar.specs.Read.{read};
 use crate::numbering::numbered;
 use crate::steps::steps;
 use std::alloc::Global;
-use vd_assertion_text::items;
 use vd_base::List;
 use vd_grammar::Stop;
 use vd_logic::{Item, Step};
 use vd_logic_grammar::{Kind, Tokens};
+use vd_term_text::items;
 
 /// The steps of a section, numbered from 1, and the line `end`.
 #[tactic(auto, using(vd_logic_grammar::specs::Laws::read_is))]

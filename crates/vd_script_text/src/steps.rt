@@ -13,11 +13,12 @@ use crate::flow::{break_loop, continue_loop, fall, load, return_value, set, skip
 use crate::heap::{agree, apart, bounds, cut, forget, glue, meet, name, share, unshare};
 use crate::parts::{as_names, at, names};
 use std::alloc::Global;
-use vd_assertion_text::{claim, prop};
+use vd_assertion_text::claim;
 use vd_base::{List, hold};
 use vd_grammar::Stop;
 use vd_logic::{Block, Step, StepNode};
 use vd_logic_grammar::{Class, Kind, Tokens, name_of};
+use vd_term_text::prop;
 
 #[cycle(step)]
 fn branches(alloc: Global, tokens: &mut Tokens<'_>) -> Result<StepNode, Stop>

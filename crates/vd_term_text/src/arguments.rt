@@ -1,10 +1,11 @@
 //! Terms in brackets, and predicates with their arguments.
 
-ghost use Rattle.std.specs.Prelude.{◌≡◌, ◌≤◌, length};
+ghost use Rattle.std.specs.Prelude.{◌≡◌, ◌<◌, ◌≤◌, length, OnOk};
 ghost use Rattle.vd_grammar.specs.Outcome.{with_front};
 ghost use Rattle.vd_grammar.specs.Reads.{Reads};
 ghost use Rattle.vd_logic_grammar.specs.Grammar.{Phrase, Rule};
 ghost use Rattle.vd_logic_grammar.specs.Read.{read, read_rule};
+ghost use Rattle.vd_term_text.specs.Next.{ReadsNext};
 
 use crate::expression::term;
 use std::alloc::Global;
@@ -13,18 +14,48 @@ use vd_grammar::Stop;
 use vd_logic::{Label, Term};
 use vd_logic_grammar::{Class, Kind, Tokens, name_of};
 
+fn last_term(tokens: &mut Tokens<'_>) -> Result<Option<Term>, Stop>
+    ensures reads { ReadsNext (read_rule Rule.last_term tokens.old) (read Phrase.MoreTerms) result tokens.new }
+    ensures shorter { OnOk result (length tokens.new < length tokens.old) }
+    ensures no_longer { length tokens.new ≤ length tokens.old }
+{
+    tokens.take(Kind::RightParen)?;
+    Ok(None)
+}
+
+fn behind_comma(alloc: Global, tokens: &mut Tokens<'_>) -> Result<Option<Term>, Stop>
+    ensures reads { ReadsNext (read_rule Rule.next_term tokens.old) (read Phrase.MoreTerms) result tokens.new }
+    ensures shorter { OnOk result (length tokens.new < length tokens.old) }
+    ensures no_longer { length tokens.new ≤ length tokens.old }
+{
+    tokens.take(Kind::Comma)?;
+    Ok(Some(term(alloc, tokens)?))
+}
+
+/// The term behind a comma, or none where the bracket closes.
+#[tactic(auto, using(vd_logic_grammar::specs::Laws::read_is))]
+fn next_term(alloc: Global, tokens: &mut Tokens<'_>) -> Result<Option<Term>, Stop>
+    ensures reads { ReadsNext (read Phrase.MoreTerms tokens.old) (read Phrase.MoreTerms) result tokens.new }
+    ensures shorter { OnOk result (length tokens.new < length tokens.old) }
+    ensures no_longer { length tokens.new ≤ length tokens.old }
+{
+    if tokens.sees(Class::One(Kind::RightParen)) {
+        last_term(tokens)
+    } else {
+        behind_comma(alloc, tokens)
+    }
+}
+
 /// The terms behind others, up to the closing bracket.
-#[tactic(auto, using(vd_logic_grammar::specs::Laws::read_is, vd_grammar::specs::Loops::fronts))]
+#[tactic(auto, using(vd_grammar::specs::Loops::fronts))]
 fn more_terms(alloc: Global, tokens: &mut Tokens<'_>, first: List<Term>) -> Result<List<Term>, Stop>
     ensures reads { Reads (with_front first (read Phrase.MoreTerms tokens.old)) result tokens.new }
     ensures no_longer { length tokens.new ≤ length tokens.old }
 {
     let mut found = first;
-    'found: while !tokens.sees(Class::One(Kind::RightParen)) {
-        tokens.take(Kind::Comma)?;
-        found.push(term(alloc, tokens)?)?;
+    'found: while let Some(term) = next_term(alloc, tokens)? {
+        found.push(term)?;
     }
-    tokens.take(Kind::RightParen)?;
     Ok(found)
 }
 

@@ -1,11 +1,13 @@
 //! Facts.
 
-ghost use Rattle.std.specs.Prelude.{◌≡◌, ◌≤◌, length};
+ghost use Rattle.std.specs.Prelude.{◌≡◌, ◌<◌, ◌≤◌, length, OnOk};
 ghost use Rattle.vd_grammar.specs.Outcome.{with_front};
 ghost use Rattle.vd_grammar.specs.Reads.{Reads};
 ghost use Rattle.vd_logic_grammar.specs.Grammar.{Phrase, Rule};
 ghost use Rattle.vd_logic_grammar.specs.Read.{read, read_rule};
+ghost use Rattle.vd_term_text.specs.Next.{ReadsNext};
 
+use crate::endings::{term_end, three_terms_end};
 use crate::expression::term;
 use crate::made::relation_of;
 use std::alloc::Global;
@@ -20,8 +22,7 @@ fn integer(alloc: Global, tokens: &mut Tokens<'_>) -> Result<Prop, Stop>
 {
     tokens.take(Kind::IsInt)?;
     tokens.take(Kind::LeftParen)?;
-    let a = hold(term(alloc, tokens)?);
-    tokens.take(Kind::RightParen)?;
+    let (a, _) = term_end(alloc, tokens)?;
     Ok(Prop::IsInt(a.out()))
 }
 
@@ -31,8 +32,7 @@ fn pointer(alloc: Global, tokens: &mut Tokens<'_>) -> Result<Prop, Stop>
 {
     tokens.take(Kind::IsPtr)?;
     tokens.take(Kind::LeftParen)?;
-    let a = hold(term(alloc, tokens)?);
-    tokens.take(Kind::RightParen)?;
+    let (a, _) = term_end(alloc, tokens)?;
     Ok(Prop::IsPtr(a.out()))
 }
 
@@ -42,12 +42,7 @@ fn each(alloc: Global, tokens: &mut Tokens<'_>) -> Result<Prop, Stop>
 {
     tokens.take(Kind::Each)?;
     tokens.take(Kind::LeftParen)?;
-    let l = hold(term(alloc, tokens)?);
-    tokens.take(Kind::Comma)?;
-    let a = hold(term(alloc, tokens)?);
-    tokens.take(Kind::Comma)?;
-    let b = hold(term(alloc, tokens)?);
-    tokens.take(Kind::RightParen)?;
+    let (l, _, a, _, b, _) = three_terms_end(alloc, tokens)?;
     Ok(Prop::Each(l.out(), a.out(), b.out()))
 }
 
@@ -78,18 +73,48 @@ pub fn prop(alloc: Global, tokens: &mut Tokens<'_>) -> Result<Prop, Stop>
     }
 }
 
+fn last_prop(tokens: &mut Tokens<'_>) -> Result<Option<Prop>, Stop>
+    ensures reads { ReadsNext (read_rule Rule.last_prop tokens.old) (read Phrase.MoreProps) result tokens.new }
+    ensures shorter { OnOk result (length tokens.new < length tokens.old) }
+    ensures no_longer { length tokens.new ≤ length tokens.old }
+{
+    tokens.take(Kind::RightParen)?;
+    Ok(None)
+}
+
+fn behind_comma(alloc: Global, tokens: &mut Tokens<'_>) -> Result<Option<Prop>, Stop>
+    ensures reads { ReadsNext (read_rule Rule.next_prop tokens.old) (read Phrase.MoreProps) result tokens.new }
+    ensures shorter { OnOk result (length tokens.new < length tokens.old) }
+    ensures no_longer { length tokens.new ≤ length tokens.old }
+{
+    tokens.take(Kind::Comma)?;
+    Ok(Some(prop(alloc, tokens)?))
+}
+
+/// The fact behind a comma, or none where the bracket closes.
+#[tactic(auto, using(vd_logic_grammar::specs::Laws::read_is))]
+fn next_prop(alloc: Global, tokens: &mut Tokens<'_>) -> Result<Option<Prop>, Stop>
+    ensures reads { ReadsNext (read Phrase.MoreProps tokens.old) (read Phrase.MoreProps) result tokens.new }
+    ensures shorter { OnOk result (length tokens.new < length tokens.old) }
+    ensures no_longer { length tokens.new ≤ length tokens.old }
+{
+    if tokens.sees(Class::One(Kind::RightParen)) {
+        last_prop(tokens)
+    } else {
+        behind_comma(alloc, tokens)
+    }
+}
+
 /// The facts behind others, up to the closing bracket.
-#[tactic(auto, using(vd_logic_grammar::specs::Laws::read_is, vd_grammar::specs::Loops::fronts))]
+#[tactic(auto, using(vd_grammar::specs::Loops::fronts))]
 fn more_props(alloc: Global, tokens: &mut Tokens<'_>, first: List<Prop>) -> Result<List<Prop>, Stop>
     ensures reads { Reads (with_front first (read Phrase.MoreProps tokens.old)) result tokens.new }
     ensures no_longer { length tokens.new ≤ length tokens.old }
 {
     let mut found = first;
-    'found: while !tokens.sees(Class::One(Kind::RightParen)) {
-        tokens.take(Kind::Comma)?;
-        found.push(prop(alloc, tokens)?)?;
+    'found: while let Some(prop) = next_prop(alloc, tokens)? {
+        found.push(prop)?;
     }
-    tokens.take(Kind::RightParen)?;
     Ok(found)
 }
 
@@ -113,7 +138,7 @@ fn no_prop(alloc: Global, tokens: &mut Tokens<'_>) -> Result<List<Prop>, Stop>
 
 /// The facts behind an opening bracket, up to the closing one.
 #[tactic(auto, using(vd_logic_grammar::specs::Laws::read_is))]
-pub(crate) fn props(alloc: Global, tokens: &mut Tokens<'_>) -> Result<List<Prop>, Stop>
+pub fn props(alloc: Global, tokens: &mut Tokens<'_>) -> Result<List<Prop>, Stop>
     ensures reads { Reads (read Phrase.Props tokens.old) result tokens.new }
     ensures no_longer { length tokens.new ≤ length tokens.old }
 {

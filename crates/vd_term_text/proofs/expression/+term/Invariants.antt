@@ -2,7 +2,7 @@ use Rattle.std.proofs.Common.{◌≡◌, length, ◌+◌, ◌*◌, ◌≤◌}
 use Rattle.vd_grammar.specs.Outcome.{with_front}
 use Rattle.vd_logic_grammar.specs.Grammar.{Factors, Sums}
 use Rattle.vd_logic_grammar.specs.Read.{read}
-use Rattle.vd_assertion_text.proofs.expression.+term.Given as goal
+use Rattle.vd_term_text.proofs.expression.+term.Given as goal
 
 abbrev pub decreases-brackets : goal.decreases-brackets
 decreases-brackets l = 8 * length l.tokens.now

@@ -1,12 +1,14 @@
 //! Items of the heap.
 
-ghost use Rattle.std.specs.Prelude.{◌≡◌, ◌≤◌, length};
+ghost use Rattle.std.specs.Prelude.{◌≡◌, ◌<◌, ◌≤◌, length, OnOk};
 ghost use Rattle.vd_grammar.specs.Outcome.{with_front};
 ghost use Rattle.vd_grammar.specs.Reads.{Reads};
 ghost use Rattle.vd_logic_grammar.specs.Grammar.{Phrase, Rule};
 ghost use Rattle.vd_logic_grammar.specs.Read.{read, read_rule};
+ghost use Rattle.vd_term_text.specs.Next.{ReadsNext};
 
 use crate::arguments::label;
+use crate::endings::{term_label_end, three_terms_end, two_terms_end};
 use crate::expression::term;
 use std::alloc::Global;
 use vd_base::{List, hold};
@@ -20,12 +22,7 @@ fn data(alloc: Global, tokens: &mut Tokens<'_>) -> Result<Item, Stop>
 {
     tokens.take(Kind::Data)?;
     tokens.take(Kind::LeftParen)?;
-    let s = hold(term(alloc, tokens)?);
-    tokens.take(Kind::Comma)?;
-    let p = hold(term(alloc, tokens)?);
-    tokens.take(Kind::Comma)?;
-    let l = hold(term(alloc, tokens)?);
-    tokens.take(Kind::RightParen)?;
+    let (s, _, p, _, l, _) = three_terms_end(alloc, tokens)?;
     Ok(Item::Data(s.out(), p.out(), l.out()))
 }
 
@@ -37,10 +34,7 @@ fn lock(alloc: Global, tokens: &mut Tokens<'_>) -> Result<Item, Stop>
     tokens.take(Kind::LeftParen)?;
     let s = hold(term(alloc, tokens)?);
     tokens.take(Kind::Comma)?;
-    let p = hold(term(alloc, tokens)?);
-    tokens.take(Kind::Comma)?;
-    let invariant = hold(label(alloc, tokens)?);
-    tokens.take(Kind::RightParen)?;
+    let (p, _, invariant, _) = term_label_end(alloc, tokens)?;
     Ok(Item::Lock(s.out(), p.out(), invariant.out()))
 }
 
@@ -50,10 +44,7 @@ fn holds(alloc: Global, tokens: &mut Tokens<'_>) -> Result<Item, Stop>
 {
     tokens.take(Kind::Holds)?;
     tokens.take(Kind::LeftParen)?;
-    let p = hold(term(alloc, tokens)?);
-    tokens.take(Kind::Comma)?;
-    let invariant = hold(label(alloc, tokens)?);
-    tokens.take(Kind::RightParen)?;
+    let (p, _, invariant, _) = term_label_end(alloc, tokens)?;
     Ok(Item::Holds(p.out(), invariant.out()))
 }
 
@@ -63,10 +54,7 @@ fn token_item(alloc: Global, tokens: &mut Tokens<'_>) -> Result<Item, Stop>
 {
     tokens.take(Kind::TokenWord)?;
     tokens.take(Kind::LeftParen)?;
-    let p = hold(term(alloc, tokens)?);
-    tokens.take(Kind::Comma)?;
-    let n = hold(term(alloc, tokens)?);
-    tokens.take(Kind::RightParen)?;
+    let (p, _, n, _) = two_terms_end(alloc, tokens)?;
     Ok(Item::Token(p.out(), n.out()))
 }
 
@@ -96,18 +84,48 @@ fn item(alloc: Global, tokens: &mut Tokens<'_>) -> Result<Item, Stop>
     }
 }
 
+fn last_item(tokens: &mut Tokens<'_>) -> Result<Option<Item>, Stop>
+    ensures reads { ReadsNext (read_rule Rule.last_item tokens.old) (read Phrase.MoreItems) result tokens.new }
+    ensures shorter { OnOk result (length tokens.new < length tokens.old) }
+    ensures no_longer { length tokens.new ≤ length tokens.old }
+{
+    tokens.take(Kind::RightParen)?;
+    Ok(None)
+}
+
+fn behind_comma(alloc: Global, tokens: &mut Tokens<'_>) -> Result<Option<Item>, Stop>
+    ensures reads { ReadsNext (read_rule Rule.next_item tokens.old) (read Phrase.MoreItems) result tokens.new }
+    ensures shorter { OnOk result (length tokens.new < length tokens.old) }
+    ensures no_longer { length tokens.new ≤ length tokens.old }
+{
+    tokens.take(Kind::Comma)?;
+    Ok(Some(item(alloc, tokens)?))
+}
+
+/// The item behind a comma, or none where the bracket closes.
+#[tactic(auto, using(vd_logic_grammar::specs::Laws::read_is))]
+fn next_item(alloc: Global, tokens: &mut Tokens<'_>) -> Result<Option<Item>, Stop>
+    ensures reads { ReadsNext (read Phrase.MoreItems tokens.old) (read Phrase.MoreItems) result tokens.new }
+    ensures shorter { OnOk result (length tokens.new < length tokens.old) }
+    ensures no_longer { length tokens.new ≤ length tokens.old }
+{
+    if tokens.sees(Class::One(Kind::RightParen)) {
+        last_item(tokens)
+    } else {
+        behind_comma(alloc, tokens)
+    }
+}
+
 /// The items behind others, up to the closing bracket.
-#[tactic(auto, using(vd_logic_grammar::specs::Laws::read_is, vd_grammar::specs::Loops::fronts))]
+#[tactic(auto, using(vd_grammar::specs::Loops::fronts))]
 fn more_items(alloc: Global, tokens: &mut Tokens<'_>, first: List<Item>) -> Result<List<Item>, Stop>
     ensures reads { Reads (with_front first (read Phrase.MoreItems tokens.old)) result tokens.new }
     ensures no_longer { length tokens.new ≤ length tokens.old }
 {
     let mut found = first;
-    'found: while !tokens.sees(Class::One(Kind::RightParen)) {
-        tokens.take(Kind::Comma)?;
-        found.push(item(alloc, tokens)?)?;
+    'found: while let Some(item) = next_item(alloc, tokens)? {
+        found.push(item)?;
     }
-    tokens.take(Kind::RightParen)?;
     Ok(found)
 }
 
